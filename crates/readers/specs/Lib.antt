@@ -1,0 +1,6 @@
+pub mod Faults
+pub mod Field
+pub mod Reading
+pub mod Small
+pub mod Ivf
+pub mod Stsz

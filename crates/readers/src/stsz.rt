@@ -1,0 +1,141 @@
+// Sample-size boxes of ISO/IEC 14496-12: one size for all samples, or a table of sizes.
+ghost use mathlib.Core.Path.{_≡_};
+ghost use mathlib.Core.List.{[]};
+ghost use Prim.Native.Nat.{_+_, _≤_};
+ghost use lib.ListN.{length};
+ghost use Rattle.std.specs.Results.{Cases};
+ghost use Rattle.std.specs.Vec.{made};
+ghost use Rattle.std.specs.declared.option.Option.the-variants.{Some, None};
+ghost use Rattle.readers.specs.Field.{big};
+ghost use Rattle.readers.specs.Reading.{Takes};
+ghost use Rattle.readers.specs.Stsz.{stsz-open-fault, has-common, size-place, sample-fault, index-size, Numbered, stsz-meaning};
+use crate::fault::MAX_SIZE;
+use crate::fault::OpenFault;
+use crate::fault::RecordFault;
+use crate::field::big_u32;
+use crate::reader::Item;
+use crate::reader::Reader;
+use totals::Weight;
+
+// A sample's size and its number, from 0.
+#[derive(Clone, Copy, Debug, PartialEq, Eq)]
+pub struct IndexRecord {
+    pub size: u32,
+    pub number: u32,
+}
+
+#[derive(Clone, Copy, Debug, PartialEq, Eq)]
+pub enum IndexItem {
+    Record(IndexRecord),
+    End,
+}
+
+#[derive(Clone, Copy, Debug)]
+pub struct StszReader<'a> {
+    input: &'a [u8],
+    // whether one size holds for all samples
+    common: bool,
+    count: u32,
+    number: u32,
+}
+
+pub impl Item for IndexItem as IndexItemSize {
+    ghost holds = { index-size };
+
+    fn size(&self) -> Option<u32> {
+        match self {
+            IndexItem::Record(record) => Some(record.size),
+            IndexItem::End => None,
+        }
+    }
+}
+
+pub impl Weight for IndexRecord as IndexRecordWeight {
+    ghost weighs = { λ r. r .size };
+
+    fn weight(&self) -> u64 {
+        u64::from(self.size)
+    }
+}
+
+impl<'a> StszReader<'a> {
+    pub fn open(input: &'a [u8]) -> Result<StszReader<'a>, OpenFault>
+        ensures { λ r. ⌜ Cases r (λ reader. (stsz-open-fault (now (input .entry)) ≡ None) × (now (reader .input) ≡ now (input .entry)) × (reader .common ≡ has-common (now (input .entry))) × (reader .count ≡ big 4 16 (now (input .entry))) × (reader .number ≡ 0)) (λ e. stsz-open-fault (now (input .entry)) ≡ Some e) ⌝ }
+    {
+        if input.len() < 20 {
+            return Err(OpenFault::TooShort {
+                length: input.len(),
+            });
+        }
+        if !input[4..].starts_with(b"stsz") {
+            return Err(OpenFault::NotStsz);
+        }
+        if big_u32(input, 8) != 0 {
+            return Err(OpenFault::BoxVersion);
+        }
+        let common_size = big_u32(input, 12);
+        if common_size > MAX_SIZE {
+            return Err(OpenFault::CommonSize);
+        }
+        let common = common_size != 0;
+        let count = big_u32(input, 16);
+        let length = if common { 20 } else { 20 + 4 * count as usize };
+        let size = big_u32(input, 0) as usize;
+        if size != input.len() {
+            return Err(OpenFault::BoxSize);
+        }
+        if size != length {
+            return Err(OpenFault::BoxSize);
+        }
+        Ok(StszReader {
+            input,
+            common,
+            count,
+            number: 0,
+        })
+    }
+}
+
+// Where the size of a sample stands.
+fn size_place(common: bool, number: u32) -> usize
+    ensures { λ r. ⌜ r ≡ size-place common number ⌝ }
+{
+    if common { 12 } else { 20 + 4 * number as usize }
+}
+
+// The check of a sample whose size stands at a place of the input; its size.
+fn sample_size(input: &[u8], place: usize) -> Result<u32, RecordFault>
+    requires { ⌜ place + 4 ≤ length (now input) ⌝ }
+    ensures { λ r. ⌜ Cases r (λ size. (sample-fault (now (input .entry)) place ≡ None) × (size ≡ big 4 place (now (input .entry)))) (λ e. sample-fault (now (input .entry)) place ≡ Some e) ⌝ }
+{
+    let size = big_u32(input, place);
+    if size > MAX_SIZE {
+        return Err(RecordFault::TooLarge { place });
+    }
+    Ok(size)
+}
+
+pub impl<'a> Reader for StszReader<'a> as StszSamples {
+    type Taken = IndexItem;
+
+    ghost reading = { stsz-meaning };
+
+    fn next(&mut self) -> Result<IndexItem, RecordFault>
+        ensures takes { λ r. ⌜ Takes index-size (stsz-meaning (now (self .entry))) r (stsz-meaning (now (self .exit))) ⌝ }
+        ensures stays { λ _. ⌜ (stsz-meaning (now (self .entry)) .sizes ≡ [] → now (self .exit) ≡ now (self .entry)) ⌝ }
+        ensures holds { λ r. ⌜ made r (Numbered (now (self .entry) .number)) ⌝ }
+    {
+        let input = self.input;
+        let number = self.number;
+        if number >= self.count {
+            return Ok(IndexItem::End);
+        }
+        let place = size_place(self.common, number);
+        if input.len() < place + 4 {
+            return Ok(IndexItem::End);
+        }
+        let size = sample_size(input, place)?;
+        self.number = number + 1;
+        Ok(IndexItem::Record(IndexRecord { size, number }))
+    }
+}
