@@ -1,3 +1,5 @@
 pub mod Taking
 pub mod Frames
 pub mod Samples
+pub mod Recorded
+pub mod Indexed

@@ -22,7 +22,7 @@ module _ (input : List ℕ) (common : Bool) where
   samples-past zero i h = refl
   samples-past (suc left) i h = cond-true (ltb (length input) (size-place common i + 4)) _ _ (lt-ltb _ _ h)
 
-  samples-next : (left later i : ℕ) (o : Option RecordFault) → left ≡ suc later → size-place common i + 4 ≤ length input → sample-fault input (size-place common i) ≡ o → samples-from left common input i ≡ record-then o (big 4 (size-place common i) input) (samples-from later common input (i + 1))
+  pub samples-next : (left later i : ℕ) (o : Option RecordFault) → left ≡ suc later → size-place common i + 4 ≤ length input → sample-fault input (size-place common i) ≡ o → samples-from left common input i ≡ record-then o (big 4 (size-place common i) input) (samples-from later common input (i + 1))
   samples-next left later i o l h e =
       ap (λ (n : ℕ). samples-from n common input i) l
       ∙ cond-false (ltb (length input) (size-place common i + 4)) _ _ (le-ltb _ _ h)

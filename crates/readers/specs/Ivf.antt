@@ -11,6 +11,8 @@ use lib.ListN.{length, take, drop}
 use Rattle.std.specs.shelf.Text.{sameBytes}
 use Rattle.std.specs.declared.option.Option.{Option}
 use Rattle.std.specs.declared.option.Option.the-variants.{Some, None}
+use Rattle.std.specs.declared.result.Result.{Result}
+use Rattle.std.specs.declared.result.Result.the-variants.{Ok, Err}
 use Rattle.readers.specs.declared.fault.OpenFault.{OpenFault}
 use Rattle.readers.specs.declared.fault.OpenFault.the-variants.{TooShort, NotDkif, IvfVersion, IvfHeaderLength}
 use Rattle.readers.specs.declared.fault.RecordFault.{RecordFault}
@@ -59,6 +61,12 @@ ItemAt input p End = length input ≤ p
 abbrev pub item-size : IvfItem → Option ℕ
 item-size (Frame frame) = Some (frame .size)
 item-size End = None
+
+-- the reader after an answer: behind the frame's data, or where it was
+abbrev pub ivf-after : Result IvfItem RecordFault → IvfReader → IvfReader
+ivf-after (Ok (Frame frame)) reader = record { input = reader .input; place = frame .place + frame .size }
+ivf-after (Ok End) reader = reader
+ivf-after (Err e) reader = reader
 
 -- the sizes of the frames from place p on, and their ending; `most` is no less than the bytes left
 abbrev pub frames-from : (most : ℕ) → List ℕ → ℕ → List ℕ × Ending

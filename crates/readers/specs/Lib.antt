@@ -4,3 +4,5 @@ pub mod Reading
 pub mod Small
 pub mod Ivf
 pub mod Stsz
+pub mod Recorded
+pub mod Indexed

@@ -12,6 +12,8 @@ use lib.ListN.{length, take, drop}
 use Rattle.std.specs.shelf.Text.{sameBytes}
 use Rattle.std.specs.declared.option.Option.{Option}
 use Rattle.std.specs.declared.option.Option.the-variants.{Some, None}
+use Rattle.std.specs.declared.result.Result.{Result}
+use Rattle.std.specs.declared.result.Result.the-variants.{Ok, Err}
 use Rattle.readers.specs.declared.fault.OpenFault.{OpenFault}
 use Rattle.readers.specs.declared.fault.OpenFault.the-variants.{TooShort, NotStsz, BoxVersion, CommonSize, BoxSize}
 use Rattle.readers.specs.declared.fault.RecordFault.{RecordFault}
@@ -91,3 +93,9 @@ index-size End = None
 abbrev pub Numbered : ℕ → IndexItem → Type 0
 Numbered i (Record r) = r .number ≡ i
 Numbered i End = Unit {0}
+
+-- the reader after an answer: at the next number, or where it was
+abbrev pub stsz-after : Result IndexItem RecordFault → StszReader → StszReader
+stsz-after (Ok (Record r)) reader = record { input = reader .input; common = reader .common; count = reader .count; number = reader .number + 1 }
+stsz-after (Ok End) reader = reader
+stsz-after (Err e) reader = reader

@@ -8,7 +8,8 @@ ghost use Rattle.std.specs.declared.option.Option.the-variants.{Some, None};
 ghost use Rattle.std.specs.Vec.{made};
 ghost use Rattle.readers.specs.Reading.{Takes};
 ghost use Rattle.readers.specs.Field.{little};
-ghost use Rattle.readers.specs.Ivf.{ivf-open-fault, frame-fault, item-size, ItemAt, ivf-meaning};
+ghost use Rattle.readers.specs.Recorded.{Reads-cut};
+ghost use Rattle.readers.specs.Ivf.{ivf-open-fault, frame-fault, item-size, ItemAt, ivf-after, ivf-meaning};
 use crate::fault::MAX_SIZE;
 use crate::fault::OpenFault;
 use crate::fault::RecordFault;
@@ -71,7 +72,8 @@ fn frame_size(input: &[u8], place: usize) -> Result<u32, RecordFault>
 
 impl<'a> IvfReader<'a> {
     pub fn open(input: &'a [u8]) -> Result<IvfReader<'a>, OpenFault>
-        ensures { λ r. ⌜ Cases r (λ reader. (ivf-open-fault (now (input .entry)) ≡ None) × (now (reader .input) ≡ now (input .entry)) × (reader .place ≡ 32)) (λ e. ivf-open-fault (now (input .entry)) ≡ Some e) ⌝ }
+        ensures opened { λ r. ⌜ Cases r (λ reader. (ivf-open-fault (now (input .entry)) ≡ None) × (now (reader .input) ≡ now (input .entry)) × (reader .place ≡ 32)) (λ e. ivf-open-fault (now (input .entry)) ≡ Some e) ⌝ }
+        ensures reads { λ r. ⌜ made r (λ reader. Reads-cut (now (input .entry)) (ivf-meaning reader)) ⌝ }
     {
         if input.len() < 32 {
             return Err(OpenFault::TooShort {
@@ -99,6 +101,7 @@ pub impl<'a> Reader for IvfReader<'a> as IvfFrames {
     fn next(&mut self) -> Result<IvfItem<'a>, RecordFault>
         ensures takes { λ r. ⌜ Takes item-size (ivf-meaning (now (self .entry))) r (ivf-meaning (now (self .exit))) ⌝ }
         ensures stays { λ _. ⌜ (ivf-meaning (now (self .entry)) .sizes ≡ [] → now (self .exit) ≡ now (self .entry)) ⌝ }
+        ensures after { λ r. ⌜ now (self .exit) ≡ ivf-after r (now (self .entry)) ⌝ }
         ensures holds { λ r. ⌜ made r (ItemAt (now (now (self .entry) .input)) (now (self .entry) .place)) ⌝ }
     {
         let input = self.input;

@@ -8,7 +8,8 @@ ghost use Rattle.std.specs.Vec.{made};
 ghost use Rattle.std.specs.declared.option.Option.the-variants.{Some, None};
 ghost use Rattle.readers.specs.Field.{big};
 ghost use Rattle.readers.specs.Reading.{Takes};
-ghost use Rattle.readers.specs.Stsz.{stsz-open-fault, has-common, size-place, sample-fault, index-size, Numbered, stsz-meaning};
+ghost use Rattle.readers.specs.Indexed.{Reads-box};
+ghost use Rattle.readers.specs.Stsz.{stsz-open-fault, has-common, size-place, sample-fault, index-size, Numbered, stsz-after, stsz-meaning};
 use crate::fault::MAX_SIZE;
 use crate::fault::OpenFault;
 use crate::fault::RecordFault;
@@ -58,35 +59,44 @@ pub impl Weight for IndexRecord as IndexRecordWeight {
     }
 }
 
+// The checks of a whole box: whether one size holds for all samples, and their count.
+fn header(input: &[u8]) -> Result<(bool, u32), OpenFault>
+    ensures { λ r. ⌜ Cases r (λ h. (stsz-open-fault (now (input .entry)) ≡ None) × (h .0 ≡ has-common (now (input .entry))) × (h .1 ≡ big 4 16 (now (input .entry)))) (λ e. stsz-open-fault (now (input .entry)) ≡ Some e) ⌝ }
+{
+    if input.len() < 20 {
+        return Err(OpenFault::TooShort {
+            length: input.len(),
+        });
+    }
+    if !input[4..].starts_with(b"stsz") {
+        return Err(OpenFault::NotStsz);
+    }
+    if big_u32(input, 8) != 0 {
+        return Err(OpenFault::BoxVersion);
+    }
+    let common_size = big_u32(input, 12);
+    if common_size > MAX_SIZE {
+        return Err(OpenFault::CommonSize);
+    }
+    let common = common_size != 0;
+    let count = big_u32(input, 16);
+    let length = if common { 20 } else { 20 + 4 * count as usize };
+    let size = big_u32(input, 0) as usize;
+    if size != input.len() {
+        return Err(OpenFault::BoxSize);
+    }
+    if size != length {
+        return Err(OpenFault::BoxSize);
+    }
+    Ok((common, count))
+}
+
 impl<'a> StszReader<'a> {
     pub fn open(input: &'a [u8]) -> Result<StszReader<'a>, OpenFault>
-        ensures { λ r. ⌜ Cases r (λ reader. (stsz-open-fault (now (input .entry)) ≡ None) × (now (reader .input) ≡ now (input .entry)) × (reader .common ≡ has-common (now (input .entry))) × (reader .count ≡ big 4 16 (now (input .entry))) × (reader .number ≡ 0)) (λ e. stsz-open-fault (now (input .entry)) ≡ Some e) ⌝ }
+        ensures opened { λ r. ⌜ Cases r (λ reader. (stsz-open-fault (now (input .entry)) ≡ None) × (now (reader .input) ≡ now (input .entry)) × (reader .common ≡ has-common (now (input .entry))) × (reader .count ≡ big 4 16 (now (input .entry))) × (reader .number ≡ 0)) (λ e. stsz-open-fault (now (input .entry)) ≡ Some e) ⌝ }
+        ensures reads { λ r. ⌜ made r (λ reader. Reads-box (now (input .entry)) (stsz-meaning reader)) ⌝ }
     {
-        if input.len() < 20 {
-            return Err(OpenFault::TooShort {
-                length: input.len(),
-            });
-        }
-        if !input[4..].starts_with(b"stsz") {
-            return Err(OpenFault::NotStsz);
-        }
-        if big_u32(input, 8) != 0 {
-            return Err(OpenFault::BoxVersion);
-        }
-        let common_size = big_u32(input, 12);
-        if common_size > MAX_SIZE {
-            return Err(OpenFault::CommonSize);
-        }
-        let common = common_size != 0;
-        let count = big_u32(input, 16);
-        let length = if common { 20 } else { 20 + 4 * count as usize };
-        let size = big_u32(input, 0) as usize;
-        if size != input.len() {
-            return Err(OpenFault::BoxSize);
-        }
-        if size != length {
-            return Err(OpenFault::BoxSize);
-        }
+        let (common, count) = header(input)?;
         Ok(StszReader {
             input,
             common,
@@ -123,6 +133,7 @@ pub impl<'a> Reader for StszReader<'a> as StszSamples {
     fn next(&mut self) -> Result<IndexItem, RecordFault>
         ensures takes { λ r. ⌜ Takes index-size (stsz-meaning (now (self .entry))) r (stsz-meaning (now (self .exit))) ⌝ }
         ensures stays { λ _. ⌜ (stsz-meaning (now (self .entry)) .sizes ≡ [] → now (self .exit) ≡ now (self .entry)) ⌝ }
+        ensures after { λ r. ⌜ now (self .exit) ≡ stsz-after r (now (self .entry)) ⌝ }
         ensures holds { λ r. ⌜ made r (Numbered (now (self .entry) .number)) ⌝ }
     {
         let input = self.input;

@@ -17,6 +17,6 @@ offset-totals-slots c = omega (arith, within c)
 
 pub returns : need.returns
 returns c =
-    let opened = c .in-Continue-reader .ensures tt in
+    let opened = c .in-Continue-reader .ensures tt .opened in
     let made = c .in-Continue-slots .ensures tt in
     opened-row (c .args .input .now) (c .in-Continue-reader .reader) (opened .1) (opened .2) (c .in-Continue-slots .slots) (c .make-film .last .totals) (omega arith) (opened .0) (made .result) (made .memory)

@@ -1,10 +1,11 @@
-use mathlib.Core.Path.{refl, ap, _∙_}
+use mathlib.Core.Path.{refl, sym, ap, _∙_}
 use native.Mathlib.Omega.{arith}
 use Rattle.std.proofs.shelf.Results.{err-from-errBy, made-from-err}
 use Rattle.std.specs.declared.option.Option.the-variants.{Some, None}
+use Rattle.std.specs.declared.result.Result.{Result}
 use Rattle.std.specs.declared.result.Result.the-variants.{Err}
 use Rattle.readers.specs.declared.fault.RecordFault.{RecordFault}
-use Rattle.readers.specs.Stsz.{index-size, stsz-meaning}
+use Rattle.readers.specs.Stsz.{index-size, stsz-after, stsz-meaning}
 use Rattle.readers.specs.Reading.{sized}
 use Rattle.readers.proofs.Samples.{stsz-at-end, stsz-past, stsz-at-sample}
 use Rattle.readers.proofs.Taking.{takes-nothing, takes-fault, takes-one, one-left}
@@ -16,6 +17,7 @@ returns-then-number-self c =
     record {
       takes = takes-nothing index-size (stsz-meaning s) _ (stsz-at-end (s .input .now) (s .common) (s .count) (s .number) (omega arith)) refl;
       stays = λ _. refl;
+      after = refl;
       holds = tt;
     }
 
@@ -25,6 +27,7 @@ returns-then-input-place c =
     record {
       takes = takes-nothing index-size (stsz-meaning s) _ (stsz-past (s .input .now) (s .common) (s .count) (s .number) (c .size-place-place .result) (c .size-place-place .ensures) (omega arith)) refl;
       stays = λ _. refl;
+      after = refl;
       holds = tt;
     }
 
@@ -36,6 +39,7 @@ returns-in-Break-size c =
     record {
       takes = takes-fault index-size (stsz-meaning s) _ _ refused (ap (sized index-size) (p .1) ∙ ap (λ (e : RecordFault). Err e) (p .2));
       stays = λ _. refl;
+      after = sym (ap (λ (r : Result _ RecordFault). stsz-after r s) (p .1));
       holds = made-from-err _ _ (c .from-residual .ensures .0);
     }
 
@@ -47,5 +51,6 @@ returns c =
     record {
       takes = takes-one index-size (stsz-meaning s) _ _ _ given refl;
       stays = λ none. absurd (one-left _ _ _ (ap (λ x. x .0) given) none);
+      after = refl;
       holds = refl;
     }
