@@ -1,19 +1,19 @@
 // Runs the cases on standard input, one a line: a kind, how many totals there is room for, and a file in hex.
 use films::fault::FilmFaultDisplay;
 use films::make::make_film;
+use ivf::IvfFrames;
+use ivf::IvfItem;
+use ivf::IvfReader;
 use readers::fault::OpenFaultDisplay;
 use readers::fault::RecordFaultDisplay;
-use readers::ivf::IvfFrames;
-use readers::ivf::IvfItem;
-use readers::ivf::IvfReader;
 use readers::reader::Reader;
-use readers::stsz::IndexItem;
-use readers::stsz::StszReader;
-use readers::stsz::StszSamples;
 use std::alloc::Global;
 use std::error::AnyError;
 use std::io::BufRead;
 use std::io::BufReader;
+use stsz::IndexItem;
+use stsz::StszReader;
+use stsz::StszSamples;
 
 // What stands in the memory before a film is made.
 const STALE: u64 = 7;
@@ -109,7 +109,12 @@ fn frame_text(heap: Global, reader: &mut IvfReader) -> Result<String, AnyError> 
             let stamp = frame.stamp;
             let held = frame.data.len();
             let first = frame.data.first().copied().unwrap_or(0);
-            Ok(format!(heap, "{held} bytes at {place} from {first}, size {size}, stamp {stamp}; ")?)
+            Ok(
+                format!(
+                    heap,
+                    "{held} bytes at {place} from {first}, size {size}, stamp {stamp}; "
+                )?,
+            )
         }
         Ok(IvfItem::End) => Ok(format!(heap, "end; ")?),
         Err(fault) => Ok(format!(heap, "{fault}; ")?),

@@ -19,8 +19,6 @@ mod tests {
     use readers::fault::RecordFaultDebug;
     use readers::fault::RecordFaultPartialEq;
     use readers::fault::RecordFaultRefusal;
-    use readers::stsz::IndexRecord;
-    use readers::stsz::IndexRecordWeight;
     use refusals::Fault;
     use refusals::Layer;
     use refusals::LayerDebug;
@@ -28,6 +26,8 @@ mod tests {
     use runs::Run;
     use runs::RunWeight;
     use std::test::*;
+    use stsz::IndexRecord;
+    use stsz::IndexRecordWeight;
     use totals::SizeWeight;
     use totals::running_totals;
 
@@ -43,7 +43,10 @@ mod tests {
         let mut totals = [9u64; 3];
         let records = [
             IndexRecord { size: 7, number: 0 },
-            IndexRecord { size: 300, number: 1 },
+            IndexRecord {
+                size: 300,
+                number: 1,
+            },
         ];
         running_totals(&records, &mut totals);
         check_eq(totals, [0, 7, 307])

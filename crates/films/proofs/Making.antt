@@ -1,19 +1,25 @@
 -- Film making after so many frames: what each answer of the reader says, and what the film then answers.
 -- Assumes nothing.
 use mathlib.Core.Path.{_≡_, refl, sym, ap, subst, _∙_}
-use mathlib.Core.List.{List, [], _∷_}
-use Prim.Native.Nat.{ℕ, min, _+_, _≤_, _<_}
+use mathlib.Core.List.{List, [], _∷_, _++_}
+use Prim.Native.Nat.{ℕ, min, _+_, _-_, _≤_, _<_}
 use native.Mathlib.Omega.{arith}
-use lib.ListN.{length, getD, drop}
-use Rattle.std.proofs.shelf.Lists.{length-drop, drop-all, drop-more}
+use lib.Dec.{eqb}
+use lib.ListN.{length, getD, take, drop, replicate}
+use Rattle.std.proofs.shelf.Lists.{length-drop, drop-all, drop-more, length-take-le, getD-take}
+use Rattle.std.proofs.shelf.Tests.{cond-both}
 use Rattle.std.proofs.shelf.Ways.{tells}
 use Rattle.std.specs.declared.option.Option.the-variants.{Some, None}
+use Rattle.std.specs.Vec.{made}
+use Rattle.std.specs.declared.result.Result.{Result}
 use Rattle.std.specs.declared.result.Result.the-variants.{Ok, Err}
 use Rattle.readers.specs.Reading.{Reading, Ending, plain, fault, answer, rest}
+use Rattle.totals.specs.Totals.{total, totals-of}
+use Rattle.totals.proofs.Steps.{totals-all}
 use Rattle.films.specs.declared.fault.FilmFault.{FilmFault}
-use Rattle.films.specs.declared.fault.FilmFault.the-variants.{Record}
-use Rattle.films.specs.Film.{at-film-end, film-result}
-use Rattle.films.specs.Steps.{film-answer, frame-check}
+use Rattle.films.specs.declared.fault.FilmFault.the-variants.{Record, NoFrame}
+use Rattle.films.specs.Film.{at-film-end, film-result, film-memory}
+use Rattle.films.specs.Steps.{film-answer, frame-check, kept-totals}
 
 -- what an answer says of the sizes s that are still to come, and of their ending
 answered-size : (s : List ℕ) (ending : Ending) (frames size : ℕ) → film-answer (answer s ending) frames ≡ Ok (Some size) → s ≡ size ∷ rest s
@@ -30,6 +36,22 @@ answered-fault : (s : List ℕ) (ending : Ending) (frames : ℕ) (x : FilmFault)
 answered-fault [] plain frames x e = let zero-one : _≡_ {A = ℕ} 0 1 = cc in absurd (omega arith)
 answered-fault [] (fault y) frames x e = (refl, let same : Record y frames ≡ x = cc in ap (λ (z : FilmFault). Err z) same)
 answered-fault (y ∷ ys) ending frames x e = let zero-one : _≡_ {A = ℕ} 0 1 = cc in absurd (omega arith)
+
+-- what holds of all frames holds of a film that is made of them
+pub made-of : (frames : ℕ) (r : Result ℕ FilmFault) (P : ℕ → Type 0) → r ≡ at-film-end plain frames → P frames → made r P
+made-of frames r P e h = subst (λ (x : Result ℕ FilmFault). made x P) (sym e) (cond-both (eqb frames 0) (Err NoFrame) (Ok frames) (λ x. made x P) (λ _. tt) (λ _. h))
+
+-- the totals that are kept are the film's, where the first entries are
+pub kept-is-film : (film : Result ℕ FilmFault) (sizes memory : List ℕ) (room : ℕ) → length memory ≡ room →
+    made film (λ frames. (frames < room) × (frames ≡ length sizes) × ((k : ℕ) → k < frames + 1 → getD memory k 0 ≡ total sizes k)) →
+    kept-totals film memory ≡ film-memory film sizes room
+kept-is-film (Err e) sizes memory room same made = ap (λ (n : ℕ). replicate {A = ℕ} n 0) same
+kept-is-film (Ok frames) sizes memory room same made =
+    let long = length-take-le (frames + 1) memory (omega (arith, made .0)) in
+    let front : take (frames + 1) memory ≡ totals-of sizes = totals-all sizes (take (frames + 1) memory) (omega (arith, made .1))
+    (λ k h. let below : k < frames + 1 = omega (arith, made .1) in getD-take (frames + 1) memory k 0 below ∙ made .2 k below) in
+    ap (λ (m : List ℕ). m ++ replicate (length memory - (frames + 1)) 0) front
+    ∙ ap (λ (n : ℕ). totals-of sizes ++ replicate (n - (frames + 1)) 0) same
 
 -- `before` is what the reader had to give at first, and `still` what it has after `frames` of them
 pub record SoFar (before still : Reading) (room frames : ℕ) : Type 0 where

@@ -1,7 +1,9 @@
 -- What the inner functions of film making answer, for one record. Assumes nothing.
 use mathlib.Core.Bool.{cond}
-use Prim.Native.Nat.{ℕ, _+_}
+use mathlib.Core.List.{List, _++_}
+use Prim.Native.Nat.{ℕ, _+_, _-_}
 use lib.Dec.{ltb}
+use lib.ListN.{length, take, replicate}
 use Rattle.std.specs.declared.option.Option.{Option}
 use Rattle.std.specs.declared.result.Result.{Result}
 use Rattle.std.specs.declared.result.Result.the-variants.{Ok, Err}
@@ -24,3 +26,8 @@ abbrev pub frame-check : (frames room : ℕ) → Result (Unit {0}) FilmFault
 frame-check frames room =
     cond (ltb frames 65535) (cond (ltb (frames + 1) room) (Ok tt) (Err (NoEntryLeft frames)))
     (Err (TooManyFrames frames))
+
+-- the entries of a film, and zeros behind them
+abbrev pub kept-totals : Result ℕ FilmFault → List ℕ → List ℕ
+kept-totals (Ok frames) memory = take (frames + 1) memory ++ replicate (length memory - (frames + 1)) 0
+kept-totals (Err e) memory = replicate (length memory) 0

@@ -7,9 +7,9 @@ ghost use Rattle.std.specs.Results.{Cases};
 ghost use Rattle.std.specs.Vec.{made};
 ghost use Rattle.std.specs.declared.result.Result.the-variants.{Ok, Err};
 ghost use Rattle.totals.specs.Totals.{total};
-ghost use Rattle.films.specs.Film.{film-result, film-memory};
-ghost use Rattle.films.specs.Steps.{with-frames, film-answer, frame-check};
-ghost use Rattle.readers.specs.Reading.{answer, rest};
+ghost use Rattle.films.specs.Film.{at-film-end, film-result, film-memory};
+ghost use Rattle.films.specs.Steps.{with-frames, film-answer, frame-check, kept-totals};
+ghost use Rattle.readers.specs.Reading.{plain, answer, rest};
 use crate::fault::FilmFault;
 use crate::fault::FilmFaultFromRecord;
 use readers::fault::RecordFault;
@@ -56,6 +56,16 @@ fn add_frame(totals: &mut [u64], frames: usize, size: u32) -> Result<(), FilmFau
     Ok(())
 }
 
+// A film of so many frames.
+fn film_of(frames: usize) -> Result<usize, FilmFault>
+    ensures { λ r. ⌜ r ≡ at-film-end plain frames ⌝ }
+{
+    if frames == 0 {
+        return Err(FilmFault::NoFrame);
+    }
+    Ok(frames)
+}
+
 // Reads to the end and puts in a total for each frame.
 fn read_frames<R: Reader>(reader: &mut R, totals: &mut [u64]) -> Result<usize, FilmFault>
     requires { ⌜ 0 < length (now totals) ⌝ }
@@ -70,10 +80,7 @@ fn read_frames<R: Reader>(reader: &mut R, totals: &mut [u64]) -> Result<usize, F
         add_frame(totals, frames, size)?;
         frames += 1;
     }
-    if frames == 0 {
-        return Err(FilmFault::NoFrame);
-    }
-    Ok(frames)
+    film_of(frames)
 }
 
 // Writes 0 into each entry from a place on.
@@ -83,6 +90,17 @@ fn clear_from(totals: &mut [u64], from: usize)
 {
     for i in from..totals.len() {
         totals[i] = 0;
+    }
+}
+
+// Keeps the totals of a film, and no entry else.
+fn clear_rest(totals: &mut [u64], film: &Result<usize, FilmFault>)
+    requires { ⌜ made (now film) (λ frames. frames < length (now totals)) ⌝ }
+    ensures { λ _. ⌜ now (totals .exit) ≡ kept-totals (now (film .entry)) (now (totals .entry)) ⌝ }
+{
+    match film {
+        Ok(frames) => clear_from(totals, *frames + 1),
+        Err(_) => clear_from(totals, 0),
     }
 }
 
@@ -97,14 +115,7 @@ pub fn make_film<R: Reader>(reader: &mut R, totals: &mut [u64]) -> Result<usize,
     if totals.is_empty() {
         return Err(FilmFault::NoMemory);
     }
-    match read_frames(reader, totals) {
-        Ok(frames) => {
-            clear_from(totals, frames + 1);
-            Ok(frames)
-        }
-        Err(fault) => {
-            clear_from(totals, 0);
-            Err(fault)
-        }
-    }
+    let film = read_frames(reader, totals);
+    clear_rest(totals, &film);
+    film
 }

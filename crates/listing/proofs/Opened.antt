@@ -13,9 +13,10 @@ use Rattle.std.specs.declared.option.Option.the-variants.{None}
 use Rattle.std.specs.declared.result.Result.{Result}
 use Rattle.std.specs.declared.result.Result.the-variants.{Ok}
 use Rattle.readers.specs.declared.fault.OpenFault.{OpenFault}
-use Rattle.readers.specs.declared.ivf.IvfReader.{IvfReader}
+use Rattle.ivf.specs.declared.IvfReader.{IvfReader}
 use Rattle.readers.specs.Reading.{Reading}
-use Rattle.readers.specs.Ivf.{ivf-open-fault, ivf-reading, ivf-meaning}
+use Rattle.ivf.specs.Ivf.{ivf-open-fault, ivf-reading, ivf-meaning}
+use Rattle.ivf.proofs.Steps.{ivf-opened}
 use Rattle.films.specs.declared.fault.FilmFault.{FilmFault}
 use Rattle.films.specs.Film.{film-result, film-memory}
 use Rattle.films.proofs.Laws.{Made, film-made, film-total}
@@ -23,9 +24,6 @@ use Rattle.listing.specs.declared.row.Row.the-variants.{Film}
 use Rattle.listing.specs.Listing.{film-row, of-film, of-opened}
 
 module _ (input : List ℕ) (reader : IvfReader) (same : reader .input .now ≡ input) (start : reader .place ≡ 32) where
-  meant : ivf-meaning reader ≡ ivf-reading input 32
-  meant = ap (λ (bytes : List ℕ). ivf-reading bytes (reader .place)) same ∙ ap (ivf-reading input) start
-
   pub opened-row : (slots : ℕ) (totals : List ℕ) → length input ≤ 65536 → ivf-open-fault input ≡ None → Ok slots ≡ film-result (ivf-meaning reader) 1025 → totals ≡ film-memory (Ok slots) (ivf-meaning reader .sizes) 1025 → Ok (Film slots (getD totals slots 0)) ≡ film-row input
   opened-row slots totals short none ok held =
       let sizes = ivf-meaning reader .sizes in
@@ -37,6 +35,6 @@ module _ (input : List ℕ) (reader : IvfReader) (same : reader .input .now ≡ 
       let row : Ok (Film slots (getD totals slots 0)) ≡ of-film (film-result (ivf-meaning reader) 1025) sizes =
       ap (λ (b : ℕ). Ok (Film slots b)) all ∙ ap (λ (x : Result ℕ FilmFault). of-film x sizes) ok in
       row
-      ∙ ap (λ (r : Reading). of-film (film-result r 1025) (r .sizes)) meant
+      ∙ ap (λ (r : Reading). of-film (film-result r 1025) (r .sizes)) (ivf-opened input reader same start)
       ∙ ap (λ (o : Option OpenFault). of-opened o input) (sym none)
       ∙ sym (cond-false (ltb 65536 (length input)) _ _ (le-ltb _ _ short))

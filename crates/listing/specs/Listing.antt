@@ -11,7 +11,7 @@ use Rattle.std.specs.declared.result.Result.{Result}
 use Rattle.std.specs.declared.result.Result.the-variants.{Ok, Err}
 use Rattle.refusals.specs.declared.Refusal.{Refusal}
 use Rattle.readers.specs.declared.fault.OpenFault.{OpenFault}
-use Rattle.readers.specs.Ivf.{ivf-open-fault, ivf-reading}
+use Rattle.ivf.specs.Ivf.{ivf-open-fault, ivf-reading}
 use Rattle.films.specs.declared.fault.FilmFault.{FilmFault}
 use Rattle.films.specs.Film.{film-result}
 use Rattle.listing.specs.declared.fault.ListingFault.{ListingFault}

@@ -31,16 +31,16 @@ pub enum ListingFault {
 pub impl From<OpenFault> for ListingFault as ListingFaultFromOpen {
     ghost converts = { λ e r. r ≡ Opened e };
 
-    fn from(fault: OpenFault) -> ListingFault {
-        ListingFault::Opened(fault)
+    fn from(open: OpenFault) -> ListingFault {
+        ListingFault::Opened(open)
     }
 }
 
 pub impl From<FilmFault> for ListingFault as ListingFaultFromFilm {
     ghost converts = { λ e r. r ≡ Film e };
 
-    fn from(fault: FilmFault) -> ListingFault {
-        ListingFault::Film(fault)
+    fn from(film: FilmFault) -> ListingFault {
+        ListingFault::Film(film)
     }
 }
 

@@ -74,7 +74,8 @@ pub impl fmt::Display for OpenFault as OpenFaultDisplay {
     ghost shown = { λ e. Some (refusal-text (open-refusal e)) };
 
     fn fmt<W: fmt::Write>(&self, f: &mut fmt::Formatter<W>) -> fmt::Result {
-        fmt::Display::fmt(&self.refusal(), f)
+        let opened = self.refusal();
+        fmt::Display::fmt(&opened, f)
     }
 }
 
@@ -82,6 +83,7 @@ pub impl fmt::Display for RecordFault as RecordFaultDisplay {
     ghost shown = { λ e. Some (refusal-text (record-refusal e)) };
 
     fn fmt<W: fmt::Write>(&self, f: &mut fmt::Formatter<W>) -> fmt::Result {
-        fmt::Display::fmt(&self.refusal(), f)
+        let record = self.refusal();
+        fmt::Display::fmt(&record, f)
     }
 }

@@ -1,6 +1,3 @@
-// Readers: what a film file holds, record by record.
+// What a reader of a film file is, and why one refuses.
 pub mod fault;
-mod field;
-pub mod ivf;
 pub mod reader;
-pub mod stsz;

@@ -42,6 +42,6 @@ pub impl Weight for Run as RunWeight {
     ghost weighs = { λ run. run .bytes };
 
     fn weight(&self) -> u64 {
-        self.bytes
+        Run::bytes(*self)
     }
 }

@@ -5,14 +5,13 @@ use native.Mathlib.Omega.{arith}
 use lib.ListN.{length, getD, drop, set}
 use Rattle.std.proofs.shelf.Lists.{length-set, getD-set-same}
 use Rattle.std.proofs.shelf.Results.{err-from-errBy, made-from-err}
-use Rattle.std.proofs.shelf.Ways.{tells}
 use Rattle.std.specs.declared.option.Option.{Option}
 use Rattle.std.specs.declared.result.Result.the-variants.{Ok, Err}
 use Rattle.totals.specs.Totals.{total}
 use Rattle.totals.proofs.Steps.{totals-more}
 use Rattle.films.specs.declared.fault.FilmFault.{FilmFault}
 use Rattle.films.specs.Steps.{frame-check}
-use Rattle.films.proofs.Making.{SoFar, in-room, let-in, at-fault, at-plain-end, at-size, at-overfull}
+use Rattle.films.proofs.Making.{SoFar, in-room, let-in, at-fault, at-plain-end, at-size, at-overfull, made-of}
 use Rattle.films.proofs.make.read_frames.Needs as need
 
 pub returns-in-Break-size : need.returns-in-Break-size
@@ -65,24 +64,13 @@ loop-size-again g c =
           (totals-more (before .sizes) memory frames (c .in-Some .size) more room (size .1) (c .loop-size .inv .2)),
     )
 
-pub returns-then-frames-eq0 : need.returns-then-frames-eq0
-returns-then-frames-eq0 g c =
-    let so = in-room (length (c .args .totals .now)) (c .loop-size .kept .totals ∙ length-set (c .args .totals .now) 0 0) (c .loop-size .inv .0) in
-    let at = at-plain-end so (sym (c .next-size .ensures .tells) ∙ c .in-Continue-size .was tt ∙ ap (λ (o : Option ℕ). Ok o) (c .in-rest .is)) in
-    record {
-      result = grind (arith, tells, at .1);
-      totals = tt;
-      left = c .next-size .ensures .moves ∙ at .2;
-      ending = c .next-size .ensures .ends ∙ so .same;
-    }
-
 pub returns : need.returns
 returns g c =
     let so = in-room (length (c .args .totals .now)) (c .loop-size .kept .totals ∙ length-set (c .args .totals .now) 0 0) (c .loop-size .inv .0) in
     let at = at-plain-end so (sym (c .next-size .ensures .tells) ∙ c .in-Continue-size .was tt ∙ ap (λ (o : Option ℕ). Ok o) (c .in-rest .is)) in
     record {
-      result = grind (arith, tells, at .1);
-      totals = (so .within, at .0, c .loop-size .inv .2);
+      result = c .film-of .ensures ∙ sym (at .1);
+      totals = made-of (c .loop-size .frames) (c .film-of .result) _ (c .film-of .ensures) (so .within, at .0, c .loop-size .inv .2);
       left = c .next-size .ensures .moves ∙ at .2;
       ending = c .next-size .ensures .ends ∙ so .same;
     }

@@ -1,7 +1,7 @@
 use mathlib.Core.Path.{sym}
 use Prim.Native.Nat.{_<_}
 use native.Mathlib.Omega.{arith}
-use Rattle.readers.specs.Ivf.{ivf-meaning}
+use Rattle.ivf.specs.Ivf.{ivf-meaning}
 use Rattle.films.proofs.Laws.{film-made}
 use Rattle.listing.proofs.Opened.{opened-row}
 use Rattle.listing.proofs.list.film_row.Needs as need

@@ -1,0 +1,2 @@
+pub mod Ivf
+pub mod Recorded

@@ -1,0 +1,2 @@
+pub mod Stsz
+pub mod Indexed
