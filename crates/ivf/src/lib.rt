@@ -141,7 +141,7 @@ impl<'a> IvfReader<'a> {
 }
 
 pub impl<'a> Reader for IvfReader<'a> as IvfFrames {
-    type Taken = IvfItem<'a>;
+    type Record = IvfItem<'a>;
 
     ghost reading = { ivf-meaning };
 

@@ -1,3 +1,4 @@
 pub mod Faults
 pub mod Rows
 pub mod Listing
+pub mod Cut

@@ -6,6 +6,7 @@ ghost use Rattle.std.specs.Joined.{joined};
 ghost use Rattle.std.specs.Vec.{made};
 ghost use Rattle.listing.specs.Rows.{row-text};
 ghost use Rattle.listing.specs.Listing.{film-row, rows-of};
+ghost use Rattle.listing.specs.Cut.{Lists-cut};
 use crate::fault::ListingFault;
 use crate::fault::ListingFaultFromFilm;
 use crate::fault::ListingFaultFromOpen;
@@ -23,8 +24,7 @@ use std::alloc::Global;
 // How many totals the program has room for.
 const TOTALS: usize = 1_025;
 
-// How much film an IVF file holds: its slots and its bytes.
-pub fn film_row(input: &[u8]) -> Result<Row, ListingFault>
+fn judge(input: &[u8]) -> Result<Row, ListingFault>
     ensures { λ r. ⌜ r ≡ film-row (now (input .entry)) ⌝ }
 {
     if input.len() > MAX_INPUT {
@@ -35,6 +35,14 @@ pub fn film_row(input: &[u8]) -> Result<Row, ListingFault>
     let slots = make_film(&mut reader, &mut totals)?;
     let bytes = totals[slots];
     Ok(Row::Film { slots, bytes })
+}
+
+// How much film an IVF file holds: its slots and its bytes.
+pub fn film_row(input: &[u8]) -> Result<Row, ListingFault>
+    ensures row { λ r. ⌜ r ≡ film-row (now (input .entry)) ⌝ }
+    ensures cut { λ r. ⌜ Lists-cut (now (input .entry)) r ⌝ }
+{
+    judge(input)
 }
 
 // The rows of a listing: the header, and then the film or what refused it.

@@ -15,12 +15,12 @@ pub trait Item {
 }
 
 pub trait Reader {
-    type Taken: Item + Drop;
+    type Record: Item + Drop;
 
     ghost reading: { Self → Reading };
 
     // The next record; at the ending the same answer each time.
-    fn next(&mut self) -> Result<Self::Taken, RecordFault>
-        ensures takes { λ r. ⌜ Takes (Taken·Item .holds) (reading (now (self .entry))) r (reading (now (self .exit))) ⌝ }
+    fn next(&mut self) -> Result<Self::Record, RecordFault>
+        ensures takes { λ r. ⌜ Takes (Record·Item .holds) (reading (now (self .entry))) r (reading (now (self .exit))) ⌝ }
         ensures stays { λ _. ⌜ (reading (now (self .entry)) .sizes ≡ [] → now (self .exit) ≡ now (self .entry)) ⌝ };
 }

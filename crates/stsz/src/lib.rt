@@ -161,7 +161,7 @@ impl<'a> StszReader<'a> {
 }
 
 pub impl<'a> Reader for StszReader<'a> as StszSamples {
-    type Taken = IndexItem;
+    type Record = IndexItem;
 
     ghost reading = { stsz-meaning };
 
