@@ -1,14 +1,10 @@
 -- What each fault of a film tells. A record's fault tells what the reader told. Assumes nothing.
-use Prim.Native.Nat.{ℕ}
-use Rattle.refusals.specs.declared.Layer.{Layer}
 use Rattle.refusals.specs.declared.Layer.the-variants.{Film, FilmEachRecord, FilmAtEnd}
 use Rattle.refusals.specs.declared.Refusal.{Refusal}
+use Rattle.refusals.specs.Told.{refused}
 use Rattle.readers.specs.Faults.{record-refusal}
 use Rattle.films.specs.declared.fault.FilmFault.{FilmFault}
 use Rattle.films.specs.declared.fault.FilmFault.the-variants.{NoMemory, Record, TooManyFrames, NoEntryLeft, NoFrame}
-
-abbrev refused : Layer → ℕ → ℕ → Refusal
-refused l n p = record { layer = l; number = n; place = p }
 
 abbrev pub film-refusal : FilmFault → Refusal
 film-refusal NoMemory = refused Film 22 0

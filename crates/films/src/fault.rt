@@ -36,26 +36,16 @@ pub impl From<(RecordFault, usize)> for FilmFault as FilmFaultFromRecord {
     }
 }
 
-fn refused(layer: Layer, number: u32, place: usize) -> Refusal
-    ensures { λ r. ⌜ r ≡ record { layer = layer; number = number; place = place } ⌝ }
-{
-    Refusal {
-        layer,
-        number,
-        place: place as u64,
-    }
-}
-
 pub impl Fault for FilmFault as FilmFaultRefusal {
     ghost tells = { film-refusal };
 
     fn refusal(&self) -> Refusal {
         match *self {
-            FilmFault::NoMemory => refused(Layer::Film, 22, 0),
+            FilmFault::NoMemory => Refusal::new(Layer::Film, 22, 0),
             FilmFault::Record { fault, frames: _ } => fault.refusal(),
-            FilmFault::TooManyFrames { frames } => refused(Layer::FilmEachRecord, 21, frames),
-            FilmFault::NoEntryLeft { frames } => refused(Layer::FilmEachRecord, 22, frames),
-            FilmFault::NoFrame => refused(Layer::FilmAtEnd, 20, 0),
+            FilmFault::TooManyFrames { frames } => Refusal::new(Layer::FilmEachRecord, 21, frames),
+            FilmFault::NoEntryLeft { frames } => Refusal::new(Layer::FilmEachRecord, 22, frames),
+            FilmFault::NoFrame => Refusal::new(Layer::FilmAtEnd, 20, 0),
         }
     }
 }

@@ -24,7 +24,7 @@ use Rattle.ivf.specs.declared.IvfReader.{IvfReader}
 use Rattle.readers.specs.Faults.{first-fault}
 use Rattle.readers.specs.Field.{little}
 use Rattle.readers.specs.Reading.{Reading, Ending, Small, nothing, record-then}
-use Rattle.readers.specs.Small.{passed, small-none, small-then, small-cond}
+use Rattle.readers.proofs.Small.{passed, small-none, small-then, small-cond}
 
 -- the checks of an input, before a reader is opened on it
 abbrev pub ivf-checks : List ℕ → List (Bool × OpenFault)

@@ -49,11 +49,7 @@ pub impl Fault for ListingFault as ListingFaultRefusal {
 
     fn refusal(&self) -> Refusal {
         match *self {
-            ListingFault::InputTooLong => Refusal {
-                layer: Layer::ProgramFirst,
-                number: 50,
-                place: MAX_INPUT as u64,
-            },
+            ListingFault::InputTooLong => Refusal::new(Layer::ProgramFirst, 50, MAX_INPUT),
             ListingFault::Opened(fault) => fault.refusal(),
             ListingFault::Film(fault) => fault.refusal(),
         }

@@ -24,7 +24,7 @@ use std::alloc::Global;
 // How many totals the program has room for.
 const TOTALS: usize = 1_025;
 
-fn judge(input: &[u8]) -> Result<Row, ListingFault>
+fn row_of(input: &[u8]) -> Result<Row, ListingFault>
     ensures { λ r. ⌜ r ≡ film-row (now (input .entry)) ⌝ }
 {
     if input.len() > MAX_INPUT {
@@ -42,7 +42,7 @@ pub fn film_row(input: &[u8]) -> Result<Row, ListingFault>
     ensures row { λ r. ⌜ r ≡ film-row (now (input .entry)) ⌝ }
     ensures cut { λ r. ⌜ Lists-cut (now (input .entry)) r ⌝ }
 {
-    judge(input)
+    row_of(input)
 }
 
 // The rows of a listing: the header, and then the film or what refused it.

@@ -1,19 +1,15 @@
 -- What each fault of a reader tells. Assumes nothing.
 use mathlib.Core.Bool.{Bool, cond}
 use mathlib.Core.List.{List, [], _∷_}
-use Prim.Native.Nat.{ℕ}
 use Rattle.std.specs.declared.option.Option.{Option}
 use Rattle.std.specs.declared.option.Option.the-variants.{Some, None}
-use Rattle.refusals.specs.declared.Layer.{Layer}
 use Rattle.refusals.specs.declared.Layer.the-variants.{ReaderOpened, EachRecord}
 use Rattle.refusals.specs.declared.Refusal.{Refusal}
+use Rattle.refusals.specs.Told.{refused}
 use Rattle.readers.specs.declared.fault.OpenFault.{OpenFault}
 use Rattle.readers.specs.declared.fault.OpenFault.the-variants.{TooShort, NotDkif, NotStsz, IvfVersion, IvfHeaderLength, BoxVersion, CommonSize, BoxSize}
 use Rattle.readers.specs.declared.fault.RecordFault.{RecordFault}
 use Rattle.readers.specs.declared.fault.RecordFault.the-variants.{HeaderCut, TooLarge, DataCut}
-
-abbrev refused : Layer → ℕ → ℕ → Refusal
-refused l n p = record { layer = l; number = n; place = p }
 
 abbrev pub open-refusal : OpenFault → Refusal
 open-refusal (TooShort length) = refused ReaderOpened 10 length

@@ -1,4 +1,3 @@
 pub mod Faults
 pub mod Field
 pub mod Reading
-pub mod Small

@@ -36,7 +36,7 @@ pub impl Fault for OpenFault as OpenFaultRefusal {
 
     fn refusal(&self) -> Refusal {
         let (number, place) = match *self {
-            OpenFault::TooShort { length } => (10, length as u64),
+            OpenFault::TooShort { length } => (10, length),
             OpenFault::NotDkif => (11, 0),
             OpenFault::NotStsz => (11, 4),
             OpenFault::IvfVersion => (12, 4),
@@ -45,11 +45,7 @@ pub impl Fault for OpenFault as OpenFaultRefusal {
             OpenFault::CommonSize => (15, 12),
             OpenFault::BoxSize => (14, 0),
         };
-        Refusal {
-            layer: Layer::ReaderOpened,
-            number,
-            place,
-        }
+        Refusal::new(Layer::ReaderOpened, number, place)
     }
 }
 
@@ -62,11 +58,7 @@ pub impl Fault for RecordFault as RecordFaultRefusal {
             RecordFault::TooLarge { place } => (15, place),
             RecordFault::DataCut { place } => (13, place),
         };
-        Refusal {
-            layer: Layer::EachRecord,
-            number,
-            place: place as u64,
-        }
+        Refusal::new(Layer::EachRecord, number, place)
     }
 }
 

@@ -1,4 +1,4 @@
--- How a refusal is written: its layer's name, its number and its place. Assumes nothing.
+-- What a refusal is, and how it is written: its layer's name, its number and its place. Assumes nothing.
 use mathlib.Core.List.{List, _++_}
 use Prim.Native.Nat.{ℕ}
 use lib.Chars.{codes}
@@ -6,6 +6,9 @@ use Rattle.std.specs.Written.{decimal}
 use Rattle.refusals.specs.declared.Layer.{Layer}
 use Rattle.refusals.specs.declared.Layer.the-variants.{ReaderOpened, EachRecord, Film, FilmEachRecord, FilmAtEnd, ProgramFirst}
 use Rattle.refusals.specs.declared.Refusal.{Refusal}
+
+abbrev pub refused : Layer → (number place : ℕ) → Refusal
+refused layer number place = record { layer = layer; number = number; place = place }
 
 abbrev pub layer-text : Layer → List ℕ
 layer-text ReaderOpened = codes "reader opened"

@@ -2,7 +2,7 @@
 ghost use mathlib.Core.Path.{_≡_};
 ghost use Rattle.std.specs.declared.option.Option.the-variants.{Some};
 ghost use Rattle.refusals.specs.declared.Refusal.{Refusal};
-ghost use Rattle.refusals.specs.Told.{layer-text, refusal-text};
+ghost use Rattle.refusals.specs.Told.{refused, layer-text, refusal-text};
 use std::fmt;
 
 // The layers, in the order in which a film meets their checks.
@@ -21,6 +21,18 @@ pub struct Refusal {
     pub layer: Layer,
     pub number: u32,
     pub place: u64,
+}
+
+impl Refusal {
+    pub fn new(layer: Layer, number: u32, place: usize) -> Refusal
+        ensures { λ r. ⌜ r ≡ refused layer number place ⌝ }
+    {
+        Refusal {
+            layer,
+            number,
+            place: place as u64,
+        }
+    }
 }
 
 // A fault of one layer, with the data that layer has of it.

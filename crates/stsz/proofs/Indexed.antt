@@ -15,7 +15,7 @@ use Rattle.readers.specs.declared.fault.RecordFault.the-variants.{TooLarge}
 use Rattle.readers.specs.Field.{big}
 use Rattle.stsz.specs.Stsz.{has-common, box-length, size-place, sample-fault, samples-from, stsz-reading, stsz-checks, stsz-open-fault}
 use Rattle.readers.specs.Reading.{Ending, plain, fault, record-then}
-use Rattle.readers.specs.Small.{passed}
+use Rattle.readers.proofs.Small.{passed}
 use Rattle.stsz.specs.Indexed.{samples, sample, FirstLarge, box-ending, Reads-box}
 use Rattle.stsz.proofs.Samples.{samples-next}
 

@@ -25,7 +25,7 @@ use Rattle.stsz.specs.declared.StszReader.{StszReader}
 use Rattle.readers.specs.Faults.{first-fault}
 use Rattle.readers.specs.Field.{big}
 use Rattle.readers.specs.Reading.{Reading, Ending, Small, nothing, record-then}
-use Rattle.readers.specs.Small.{passed, small-none, small-then, small-cond}
+use Rattle.readers.proofs.Small.{passed, small-none, small-then, small-cond}
 
 -- whether one size holds for all samples
 abbrev pub has-common : List ℕ → Bool

@@ -4,7 +4,7 @@ use native.Mathlib.Omega.{arith}
 use Rattle.ivf.specs.Ivf.{ivf-meaning}
 use Rattle.films.proofs.Laws.{film-made}
 use Rattle.listing.proofs.Opened.{opened-row}
-use Rattle.listing.proofs.list.judge.Needs as need
+use Rattle.listing.proofs.list.row_of.Needs as need
 
 within : (c : need.In-Continue-slots-unread) → c .in-Continue-slots .slots < 1025
 within c = film-made (ivf-meaning (c .in-Continue-reader .reader)) 1025 _ (sym (c .in-Continue-slots .ensures tt .result)) .within
