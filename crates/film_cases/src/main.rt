@@ -4,6 +4,9 @@ use films::make::make_film;
 use ivf::IvfFrames;
 use ivf::IvfItem;
 use ivf::IvfReader;
+use listing::list::listing;
+use listing::row::Row;
+use listing::row::RowDisplay;
 use readers::fault::OpenFaultDisplay;
 use readers::fault::RecordFaultDisplay;
 use readers::reader::Reader;
@@ -158,6 +161,14 @@ fn stsz_items(heap: Global, input: &[u8], calls: usize) -> Result<String, AnyErr
     Ok(text)
 }
 
+fn rows_text(heap: Global, rows: &[Row]) -> Result<String, AnyError> {
+    let mut text = String::new(heap);
+    for row in rows {
+        text.push_str(row.to_string(heap)?.as_str())?;
+    }
+    Ok(text)
+}
+
 fn answer(heap: Global, line: &str) -> Result<String, AnyError> {
     let mut words = line.split(' ');
     let kind = words.next().unwrap_or("");
@@ -168,7 +179,7 @@ fn answer(heap: Global, line: &str) -> Result<String, AnyError> {
         "stsz" => stsz_film(heap, &input, number),
         "frames" => ivf_items(heap, &input, number),
         "records" => stsz_items(heap, &input, number),
-        "listing" => Ok(listing::list::listing(heap, &input)?),
+        "listing" => rows_text(heap, &listing(&input)),
         _ => Err("no such kind".into()),
     }
 }

@@ -6,10 +6,17 @@ mod tests {
     use films::fault::FilmFaultFromRecord;
     use films::fault::FilmFaultPartialEq;
     use films::fault::FilmFaultRefusal;
+    use films::make::make_film;
+    use ivf::IvfFrames;
+    use ivf::IvfItem;
+    use ivf::IvfItemSize;
+    use ivf::IvfReader;
     use listing::fault::ListingFault;
     use listing::fault::ListingFaultDebug;
+    use listing::fault::ListingFaultDisplay;
     use listing::fault::ListingFaultPartialEq;
     use listing::list::film_row;
+    use listing::row::Row;
     use listing::row::RowDebug;
     use listing::row::RowPartialEq;
     use readers::fault::OpenFault;
@@ -19,6 +26,8 @@ mod tests {
     use readers::fault::RecordFaultDebug;
     use readers::fault::RecordFaultPartialEq;
     use readers::fault::RecordFaultRefusal;
+    use readers::reader::Item;
+    use readers::reader::Reader;
     use refusals::Fault;
     use refusals::Layer;
     use refusals::LayerDebug;
@@ -96,6 +105,118 @@ mod tests {
         check_eq(fault.layer(), Layer::EachRecord)?;
         check_eq(fault.number(), 13)?;
         check_eq(fault.place(), 101)
+    }
+
+    // An IVF header, and frames of 1 and 2 bytes with stamps 7 and 258.
+    const TWO_FRAMES: [u8; 59] = [
+        b'D',
+        b'K',
+        b'I',
+        b'F',
+        0,
+        0,
+        32,
+        0,
+        0,
+        0,
+        0,
+        0,
+        0,
+        0,
+        0,
+        0,
+        0,
+        0,
+        0,
+        0,
+        0,
+        0,
+        0,
+        0,
+        0,
+        0,
+        0,
+        0,
+        0,
+        0,
+        0,
+        0,
+        1,
+        0,
+        0,
+        0,
+        7,
+        0,
+        0,
+        0,
+        0,
+        0,
+        0,
+        0,
+        50,
+        2,
+        0,
+        0,
+        0,
+        2,
+        1,
+        0,
+        0,
+        0,
+        0,
+        0,
+        0,
+        60,
+        70,
+    ];
+
+    #[test]
+    fn a_reader_goes_on_after_a_refusal() -> Result<(), Fail> {
+        let mut reader = IvfReader::open(&TWO_FRAMES)?;
+        let mut totals = [9u64; 1];
+        let film = make_film(&mut reader, &mut totals);
+        check_eq(film, Err(FilmFault::NoEntryLeft { frames: 0 }))?;
+        check_eq(totals, [0])?;
+        let IvfItem::Frame(frame) = reader.next()? else {
+            return Err(Fail::new("no second frame"));
+        };
+        check_eq(frame.data, &[60, 70])?;
+        check_eq((frame.place, frame.size, frame.stamp), (57, 2, 258))?;
+        check(reader.next()?.size().is_none())
+    }
+
+    #[test]
+    fn no_memory_leaves_the_reader() -> Result<(), Fail> {
+        let mut reader = IvfReader::open(&TWO_FRAMES)?;
+        let mut none: [u64; 0] = [];
+        check_eq(make_film(&mut reader, &mut none), Err(FilmFault::NoMemory))?;
+        let mut totals = [9u64; 4];
+        check_eq(make_film(&mut reader, &mut totals)?, 2)?;
+        check_eq(totals, [0, 1, 3, 0])
+    }
+
+    #[test]
+    fn a_fault_as_text(rt: LibcRuntime) -> Result<(), Fail> {
+        let text = ListingFault::InputTooLong.to_string(rt.alloc())?;
+        check_eq(text.as_str(), "program, first: refused by 50 at 65536")
+    }
+
+    #[test]
+    fn longest_film() -> Result<(), Fail> {
+        let mut input = [0u8; 65_536];
+        input[0] = b'D';
+        input[1] = b'K';
+        input[2] = b'I';
+        input[3] = b'F';
+        input[6] = 32;
+        // one frame of 65,492 bytes
+        input[32] = 0xd4;
+        input[33] = 0xff;
+        let row = Row::Film {
+            slots: 1,
+            bytes: 65_492,
+        };
+        check_eq(film_row(&input), Ok(row))
     }
 
     #[test]

@@ -1,6 +1,6 @@
 -- What callers use of a film that was made. Assumes nothing.
-use mathlib.Core.Path.{_≡_, refl, sym, ap, _∙_}
-use mathlib.Core.List.{List, _++_}
+use mathlib.Core.Path.{_≡_, _∙_}
+use mathlib.Core.List.{List}
 use Prim.Native.Nat.{ℕ, min, _+_, _-_, _≤_, _<_}
 use native.Mathlib.Omega.{arith}
 use lib.ListN.{length, getD, replicate}
@@ -10,7 +10,6 @@ use Rattle.std.proofs.shelf.Ways.{tells}
 use Rattle.std.specs.declared.result.Result.the-variants.{Ok}
 use Rattle.readers.specs.Reading.{Reading, Ending, plain, fault}
 use Rattle.totals.specs.Totals.{total, totals-of}
-use Rattle.films.specs.declared.fault.FilmFault.{FilmFault}
 use Rattle.films.specs.Film.{at-film-end, film-result, film-memory}
 
 pub record Made (sizes : List ℕ) (room frames : ℕ) : Type 0 where
@@ -21,7 +20,7 @@ pub record Made (sizes : List ℕ) (room frames : ℕ) : Type 0 where
 
 ended-ok : (ending : Ending) (n frames : ℕ) → at-film-end ending n ≡ Ok frames → (frames ≡ n) × (1 ≤ n)
 ended-ok plain n frames e = (grind (arith, tells), grind (arith, tells))
-ended-ok (fault x) n frames e = let zero-one : _≡_ {A = ℕ} 0 1 = cc in absurd (omega arith)
+ended-ok (fault x) n frames e = absurd (grind arith)
 
 -- a film has as many frames as its reader had sizes, from 1 to 65,535, and its totals lie within the memory
 pub film-made : (r : Reading) (room frames : ℕ) → film-result r room ≡ Ok frames → Made (r .sizes) room frames

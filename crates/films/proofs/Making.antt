@@ -23,19 +23,19 @@ use Rattle.films.specs.Steps.{film-answer, frame-check, kept-totals}
 
 -- what an answer says of the sizes s that are still to come, and of their ending
 answered-size : (s : List ℕ) (ending : Ending) (frames size : ℕ) → film-answer (answer s ending) frames ≡ Ok (Some size) → s ≡ size ∷ rest s
-answered-size [] plain frames size e = let zero-one : _≡_ {A = ℕ} 0 1 = cc in absurd (omega arith)
-answered-size [] (fault x) frames size e = let zero-one : _≡_ {A = ℕ} 0 1 = cc in absurd (omega arith)
+answered-size [] plain frames size e = absurd (grind arith)
+answered-size [] (fault x) frames size e = absurd (grind arith)
 answered-size (y ∷ ys) ending frames size e = let same : y ≡ size = cc in ap (λ (z : ℕ). z ∷ ys) same
 
 answered-end : (s : List ℕ) (ending : Ending) (frames : ℕ) → film-answer (answer s ending) frames ≡ Ok None → (s ≡ []) × (ending ≡ plain)
 answered-end [] plain frames e = (refl, refl)
-answered-end [] (fault x) frames e = let zero-one : _≡_ {A = ℕ} 0 1 = cc in absurd (omega arith)
-answered-end (y ∷ ys) ending frames e = let zero-one : _≡_ {A = ℕ} 0 1 = cc in absurd (omega arith)
+answered-end [] (fault x) frames e = absurd (grind arith)
+answered-end (y ∷ ys) ending frames e = absurd (grind arith)
 
 answered-fault : (s : List ℕ) (ending : Ending) (frames : ℕ) (x : FilmFault) → film-answer (answer s ending) frames ≡ Err x → (s ≡ []) × (at-film-end ending frames ≡ Err x)
-answered-fault [] plain frames x e = let zero-one : _≡_ {A = ℕ} 0 1 = cc in absurd (omega arith)
+answered-fault [] plain frames x e = absurd (grind arith)
 answered-fault [] (fault y) frames x e = (refl, let same : Record y frames ≡ x = cc in ap (λ (z : FilmFault). Err z) same)
-answered-fault (y ∷ ys) ending frames x e = let zero-one : _≡_ {A = ℕ} 0 1 = cc in absurd (omega arith)
+answered-fault (y ∷ ys) ending frames x e = absurd (grind arith)
 
 -- what holds of all frames holds of a film that is made of them
 pub made-of : (frames : ℕ) (r : Result ℕ FilmFault) (P : ℕ → Type 0) → r ≡ at-film-end plain frames → P frames → made r P

@@ -12,6 +12,7 @@ use refusals::Fault;
 use refusals::Layer;
 use refusals::Refusal;
 use refusals::RefusalDisplay;
+use std::error::Error;
 use std::fmt;
 
 #[derive(Clone, Copy, Debug, PartialEq, Eq)]
@@ -57,3 +58,5 @@ pub impl fmt::Display for FilmFault as FilmFaultDisplay {
         fmt::Display::fmt(&self.refusal(), f)
     }
 }
+
+pub impl Error for FilmFault as FilmFaultError {}

@@ -111,6 +111,7 @@ pub fn make_film<R: Reader>(reader: &mut R, totals: &mut [u64]) -> Result<usize,
     ensures memory { λ r. ⌜ now (totals .exit) ≡ film-memory r (reading (now (reader .entry)) .sizes) (length (now (totals .entry))) ⌝ }
     ensures left { λ _. ⌜ reading (now (reader .exit)) .sizes ≡ drop (min 65536 (length (now (totals .entry)))) (reading (now (reader .entry)) .sizes) ⌝ }
     ensures ending { λ _. ⌜ reading (now (reader .exit)) .ending ≡ reading (now (reader .entry)) .ending ⌝ }
+    ensures unread { λ _. ⌜ (length (now (totals .entry)) ≡ 0 → now (reader .exit) ≡ now (reader .entry)) ⌝ }
 {
     if totals.is_empty() {
         return Err(FilmFault::NoMemory);

@@ -1,23 +1,21 @@
 -- Files that cameras leave are read up to the frame that was cut. Assumes nothing.
-use mathlib.Core.Path.{_≡_, refl, sym, ap, subst, _∙_}
-use mathlib.Core.Bool.{cond}
+use mathlib.Core.Path.{_≡_, refl, sym, ap, _∙_}
 use mathlib.Core.List.{List, [], _∷_, _++_, map}
 use mathlib.Core.Logic.{⊎-elim}
-use Prim.Native.Nat.{ℕ, zero, suc, _+_, _-_, _*_, _/_, _%_, _≤_, _<_}
+use Prim.Native.Nat.{ℕ, zero, suc, _+_, _-_, _/_, _%_, _≤_, _<_}
 use native.Mathlib.Omega.{arith}
 use lib.Dec.{eqb, ltb}
-use lib.ListN.{length, getD, take}
-use Rattle.std.proofs.shelf.Lists.{append-assoc, length-append, length-push, length-take-le, getD-at, take-append-le}
+use lib.ListN.{length, take}
+use Rattle.std.proofs.shelf.Lists.{append-assoc, length-append, length-push, length-take-le, getD-at}
 use Rattle.std.proofs.shelf.Tests.{lt-ltb, le-ltb, cond-true, cond-false, cases-lt, eq-eqb, ne-eqb}
 use Rattle.std.specs.Joined.{joined}
-use Rattle.std.specs.declared.option.Option.{Option}
 use Rattle.std.specs.declared.option.Option.the-variants.{Some, None}
 use Rattle.readers.specs.declared.fault.RecordFault.{RecordFault}
 use Rattle.readers.specs.declared.fault.RecordFault.the-variants.{HeaderCut, DataCut}
 use Rattle.readers.specs.Field.{little}
 use Rattle.ivf.specs.Ivf.{frame-fault, ivf-reading}
-use Rattle.readers.specs.Reading.{Ending, plain, fault, nothing}
-use Rattle.ivf.specs.Recorded.{low-first, Shot, shot-size, shot-bytes, CutAt, cut-ending, Reads-cut}
+use Rattle.readers.specs.Reading.{Ending, plain, fault}
+use Rattle.ivf.specs.Recorded.{low-first, Shot, shot-size, shot-bytes, cut-ending, Reads-cut}
 use Rattle.ivf.proofs.Frames.{ivf-at-end, ivf-at-frame}
 use Rattle.readers.proofs.Taking.{still}
 
@@ -43,6 +41,9 @@ size-fits v h = omega arith
 length-shot : (shot : Shot) → length (shot-bytes shot) ≡ 12 + shot-size shot
 length-shot shot = omega arith
 
+header-cut : (input : List ℕ) (p there : ℕ) → length input ≡ p + there → there < 12 → frame-fault input p ≡ Some (HeaderCut p)
+header-cut input p there long cut = cond-true (ltb (length input) (p + 12)) _ _ (lt-ltb _ _ (omega arith))
+
 -- the checks of a frame, by the size that its header has and the bytes that are there
 module _ (input : List ℕ) (p size there : ℕ) (long : length input ≡ p + there) (small : size ≤ 16777215) where
   passes : little 4 p input ≡ size → 12 + size ≤ there → frame-fault input p ≡ None
@@ -50,9 +51,6 @@ module _ (input : List ℕ) (p size there : ℕ) (long : length input ≡ p + th
       cond-false (ltb (length input) (p + 12)) _ _ (le-ltb _ _ (omega arith))
       ∙ cond-false (ltb 16777215 (little 4 p input)) _ _ (le-ltb _ _ (omega arith))
       ∙ cond-false (ltb (length input) (p + 12 + little 4 p input)) _ _ (le-ltb _ _ (omega arith))
-
-  header-cut : there < 12 → frame-fault input p ≡ Some (HeaderCut p)
-  header-cut cut = cond-true (ltb (length input) (p + 12)) _ _ (lt-ltb _ _ (omega arith))
 
   data-cut : little 4 p input ≡ size → 12 ≤ there → there < 12 + size → frame-fault input p ≡ Some (DataCut p)
   data-cut is head cut =
@@ -78,7 +76,7 @@ module _ (broken : Shot) (n : ℕ) (part : n < length (shot-bytes broken)) where
       (λ none. ends plain (sym (cond-true (eqb n 0) _ _ (eq-eqb _ _ (omega arith)))) (ivf-at-end input p (omega arith)))
       (λ more. let apart : n ≡ 0 → ⊥ = λ e. omega arith in ⊎-elim
       (λ cut. ends (fault (HeaderCut p)) (sym (cond-false (eqb n 0) _ _ (ne-eqb _ _ apart) ∙ ap (λ (e : RecordFault). fault e) (cond-true (ltb n 12) _ _ (lt-ltb _ _ cut))))
-      (ivf-at-frame input p _ (Some (HeaderCut p)) (some more) (header-cut input p 0 n long (omega arith) cut) refl))
+      (ivf-at-frame input p _ (Some (HeaderCut p)) (some more) (header-cut input p n long cut) refl))
       (λ head. ends (fault (DataCut p)) (sym (cond-false (eqb n 0) _ _ (ne-eqb _ _ apart) ∙ ap (λ (e : RecordFault). fault e) (cond-false (ltb n 12) _ _ (le-ltb _ _ head))))
       (ivf-at-frame input p _ (Some (DataCut p)) (some more) (data-cut input p (shot-size broken) n long (broken .small) (ap (little 4 p) is ∙ size-there broken n pre p h head) head (omega (arith, length-shot broken))) refl))
       (cases-lt n 12))

@@ -13,7 +13,7 @@ use Rattle.readers.proofs.Taking.{Stepped, stepped-end, stepped-fault, stepped-
 use Rattle.ivf.specs.declared.IvfItem.{IvfItem}
 use Rattle.ivf.specs.declared.IvfItem.the-variants.{Frame, End}
 use Rattle.ivf.specs.declared.IvfReader.{IvfReader}
-use Rattle.ivf.specs.Ivf.{ivf-open-fault, item-size, ItemAt, FaultAt, ivf-after, ivf-reading, ivf-meaning}
+use Rattle.ivf.specs.Ivf.{IvfOpened, item-size, ItemAt, FaultAt, ivf-after, ivf-reading, ivf-meaning}
 use Rattle.ivf.specs.Recorded.{Reads-cut}
 use Rattle.ivf.proofs.Frames.{ivf-at-end, ivf-at-frame}
 use Rattle.ivf.proofs.Recorded.{ivf-reads-cut}
@@ -41,6 +41,6 @@ module _ (reader : IvfReader) where
 pub ivf-opened : (input : List ℕ) (reader : IvfReader) → reader .input .now ≡ input → reader .place ≡ 32 → ivf-meaning reader ≡ ivf-reading input 32
 ivf-opened input reader same start = ap (λ (bytes : List ℕ). ivf-reading bytes (reader .place)) same ∙ ap (ivf-reading input) start
 
-pub ivf-opens : (input : List ℕ) (r : Result IvfReader OpenFault) → Cases r (λ reader. (ivf-open-fault input ≡ None) × (reader .input .now ≡ input) × (reader .place ≡ 32)) (λ e. ivf-open-fault input ≡ Some e) → made r (λ reader. Reads-cut input (ivf-meaning reader))
+pub ivf-opens : (input : List ℕ) (r : Result IvfReader OpenFault) → IvfOpened input r → made r (λ reader. Reads-cut input (ivf-meaning reader))
 ivf-opens input (Ok reader) opened = subst (Reads-cut input) (sym (ivf-opened input reader (opened .1) (opened .2))) (ivf-reads-cut input)
 ivf-opens input (Err e) opened = tt

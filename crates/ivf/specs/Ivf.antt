@@ -8,6 +8,7 @@ use borrow.Author.Tests.{ltb-false}
 use lib.Chars.{codes}
 use lib.Dec.{ltb, leb, eqb}
 use lib.ListN.{length, take, drop}
+use Rattle.std.specs.Results.{Cases}
 use Rattle.std.specs.shelf.Text.{sameBytes}
 use Rattle.std.specs.declared.option.Option.{Option}
 use Rattle.std.specs.declared.option.Option.the-variants.{Some, None}
@@ -23,7 +24,7 @@ use Rattle.ivf.specs.declared.IvfItem.the-variants.{Frame, End}
 use Rattle.ivf.specs.declared.IvfReader.{IvfReader}
 use Rattle.readers.specs.Faults.{first-fault}
 use Rattle.readers.specs.Field.{little}
-use Rattle.readers.specs.Reading.{Reading, Ending, Small, nothing, record-then}
+use Rattle.readers.specs.Reading.{Reading, Ending, max-size, Small, nothing, record-then}
 use Rattle.readers.proofs.Small.{passed, small-none, small-then, small-cond}
 
 -- the checks of an input, before a reader is opened on it
@@ -37,11 +38,15 @@ ivf-checks input =
 abbrev pub ivf-open-fault : List ℕ → Option OpenFault
 ivf-open-fault input = first-fault (ivf-checks input)
 
+-- what opening answers: a reader at byte 32, or the fault
+abbrev pub IvfOpened : List ℕ → Result IvfReader OpenFault → Type 0
+IvfOpened input r = Cases r (λ reader. (ivf-open-fault input ≡ None) × (reader .input .now ≡ input) × (reader .place ≡ 32)) (λ e. ivf-open-fault input ≡ Some e)
+
 -- the checks of a frame at place p, before the input's end
 abbrev pub frame-checks : List ℕ → ℕ → List (Bool × RecordFault)
 frame-checks input p =
     (ltb (length input) (p + 12), HeaderCut p) ∷
-    (ltb 16777215 (little 4 p input), TooLarge p) ∷
+    (ltb max-size (little 4 p input), TooLarge p) ∷
     (ltb (length input) (p + 12 + little 4 p input), DataCut p) ∷ []
 
 abbrev pub frame-fault : List ℕ → ℕ → Option RecordFault
@@ -85,7 +90,7 @@ pub frames-small : (most : ℕ) (input : List ℕ) (p : ℕ) → Small (frames-f
 frames-small zero input p = small-none
 frames-small (suc most) input p =
     small-cond (leb (length input) p) nothing _ small-none
-    (small-then (frame-fault input p) (little 4 p input) _ (λ e. ltb-false 16777215 (little 4 p input) (passed (frame-checks input p) e .1 .0))
+    (small-then (frame-fault input p) (little 4 p input) _ (λ e. ltb-false max-size (little 4 p input) (passed (frame-checks input p) e .1 .0))
     (frames-small most input (p + 12 + little 4 p input)))
 
 abbrev pub ivf-reading : List ℕ → ℕ → Reading

@@ -8,7 +8,7 @@ use lib.Dec.{eqb, ltb}
 use lib.ListN.{length, take}
 use Rattle.std.specs.Joined.{joined}
 use Rattle.readers.specs.declared.fault.RecordFault.the-variants.{HeaderCut, DataCut}
-use Rattle.readers.specs.Reading.{Reading, Ending, plain, fault}
+use Rattle.readers.specs.Reading.{Reading, Ending, max-size, plain, fault}
 
 -- a number in n bytes, low byte first
 abbrev pub low-first : ℕ → ℕ → List ℕ
@@ -19,7 +19,7 @@ low-first (suc n) v = v % 256 ∷ low-first n (v / 256)
 pub record Shot : Type 0 where
   pub stamp : ℕ
   pub held : List ℕ
-  pub small : length held ≤ 16777215
+  pub small : length held ≤ max-size
 
 abbrev pub shot-size : Shot → ℕ
 shot-size shot = length (shot .held)
@@ -40,8 +40,12 @@ pub record CutAt (input : List ℕ) (whole : List Shot) (n : ℕ) : Type 0 where
 abbrev pub cut-ending : (place n : ℕ) → Ending
 cut-ending place n = cond (eqb n 0) plain (fault (cond (ltb n 12) (HeaderCut place) (DataCut place)))
 
+-- the first byte of that frame
+abbrev pub cut-place : List Shot → ℕ
+cut-place whole = 32 + length (joined shot-bytes whole)
+
 -- each whole frame is read, wherever the file was cut
 abbrev pub Reads-cut : List ℕ → Reading → Type 0
 Reads-cut input r =
     (whole : List Shot) (n : ℕ) → CutAt input whole n →
-    (r .sizes ≡ map shot-size whole) × (r .ending ≡ cut-ending (32 + length (joined shot-bytes whole)) n)
+    (r .sizes ≡ map shot-size whole) × (r .ending ≡ cut-ending (cut-place whole) n)

@@ -8,7 +8,7 @@ ghost use Rattle.std.specs.Vec.{made};
 ghost use Rattle.std.specs.declared.option.Option.the-variants.{Some, None};
 ghost use Rattle.readers.specs.Reading.{Takes};
 ghost use Rattle.readers.specs.Field.{little};
-ghost use Rattle.ivf.specs.Ivf.{ivf-open-fault, frame-fault, item-size, ItemAt, FaultAt, ivf-after, ivf-meaning};
+ghost use Rattle.ivf.specs.Ivf.{IvfOpened, frame-fault, item-size, ItemAt, FaultAt, ivf-after, ivf-meaning};
 ghost use Rattle.ivf.specs.Recorded.{Reads-cut};
 
 mod field;
@@ -40,7 +40,7 @@ pub enum IvfItem<'a> {
     End,
 }
 
-#[derive(Clone, Copy)]
+#[derive(Drop)]
 pub struct IvfReader<'a> {
     input: &'a [u8],
     place: usize,
@@ -96,7 +96,7 @@ fn frame_at<'a>(input: &'a [u8], place: usize, size: u32) -> Frame<'a>
 
 impl<'a> IvfReader<'a> {
     fn begin(input: &'a [u8]) -> Result<IvfReader<'a>, OpenFault>
-        ensures { λ r. ⌜ Cases r (λ reader. (ivf-open-fault (now (input .entry)) ≡ None) × (now (reader .input) ≡ now (input .entry)) × (reader .place ≡ 32)) (λ e. ivf-open-fault (now (input .entry)) ≡ Some e) ⌝ }
+        ensures { λ r. ⌜ IvfOpened (now (input .entry)) r ⌝ }
     {
         if input.len() < 32 {
             return Err(OpenFault::TooShort {
@@ -117,7 +117,7 @@ impl<'a> IvfReader<'a> {
 
     // A reader at the first frame, where the header passes its checks.
     pub fn open(input: &'a [u8]) -> Result<IvfReader<'a>, OpenFault>
-        ensures opened { λ r. ⌜ Cases r (λ reader. (ivf-open-fault (now (input .entry)) ≡ None) × (now (reader .input) ≡ now (input .entry)) × (reader .place ≡ 32)) (λ e. ivf-open-fault (now (input .entry)) ≡ Some e) ⌝ }
+        ensures opened { λ r. ⌜ IvfOpened (now (input .entry)) r ⌝ }
         ensures reads { λ r. ⌜ made r (λ reader. Reads-cut (now (input .entry)) (ivf-meaning reader)) ⌝ }
     {
         IvfReader::begin(input)

@@ -1,10 +1,10 @@
 -- The row of a film that a reader was opened for. Assumes nothing.
 use mathlib.Core.Path.{_≡_, sym, ap, _∙_}
 use mathlib.Core.List.{List}
-use Prim.Native.Nat.{ℕ, _≤_, _<_}
+use Prim.Native.Nat.{ℕ, _≤_}
 use native.Mathlib.Omega.{arith}
 use lib.Dec.{ltb}
-use lib.ListN.{length, getD, take}
+use lib.ListN.{length, getD}
 use Rattle.std.proofs.shelf.Lists.{take-all}
 use Rattle.std.proofs.shelf.Tests.{le-ltb, cond-false}
 use Rattle.std.specs.shelf.Lists.{sum}
@@ -15,11 +15,11 @@ use Rattle.std.specs.declared.result.Result.the-variants.{Ok}
 use Rattle.readers.specs.declared.fault.OpenFault.{OpenFault}
 use Rattle.ivf.specs.declared.IvfReader.{IvfReader}
 use Rattle.readers.specs.Reading.{Reading}
-use Rattle.ivf.specs.Ivf.{ivf-open-fault, ivf-reading, ivf-meaning}
+use Rattle.ivf.specs.Ivf.{ivf-open-fault, ivf-meaning}
 use Rattle.ivf.proofs.Steps.{ivf-opened}
 use Rattle.films.specs.declared.fault.FilmFault.{FilmFault}
 use Rattle.films.specs.Film.{film-result, film-memory}
-use Rattle.films.proofs.Laws.{Made, film-made, film-total}
+use Rattle.films.proofs.Laws.{film-made, film-total}
 use Rattle.listing.specs.declared.row.Row.the-variants.{Film}
 use Rattle.listing.specs.Listing.{film-row, of-film, of-opened}
 

@@ -9,7 +9,6 @@ use Rattle.std.specs.declared.option.Option.{Option}
 use Rattle.std.specs.declared.option.Option.the-variants.{Some, None}
 use Rattle.std.specs.declared.result.Result.{Result}
 use Rattle.std.specs.declared.result.Result.the-variants.{Ok, Err}
-use Rattle.refusals.specs.declared.Refusal.{Refusal}
 use Rattle.readers.specs.declared.fault.OpenFault.{OpenFault}
 use Rattle.ivf.specs.Ivf.{ivf-open-fault, ivf-reading}
 use Rattle.films.specs.declared.fault.FilmFault.{FilmFault}

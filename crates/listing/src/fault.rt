@@ -16,6 +16,7 @@ use refusals::Fault;
 use refusals::Layer;
 use refusals::Refusal;
 use refusals::RefusalDisplay;
+use std::error::Error;
 use std::fmt;
 
 // The most bytes of an input.
@@ -63,3 +64,5 @@ pub impl fmt::Display for ListingFault as ListingFaultDisplay {
         fmt::Display::fmt(&self.refusal(), f)
     }
 }
+
+pub impl Error for ListingFault as ListingFaultError {}

@@ -1,10 +1,5 @@
 // All that the program does but input and output.
 ghost use mathlib.Core.Path.{_≡_};
-ghost use Rattle.std.specs.Of.String.{string-bytes};
-ghost use Rattle.std.specs.Of.Vec.{vec-items};
-ghost use Rattle.std.specs.Joined.{joined};
-ghost use Rattle.std.specs.Vec.{made};
-ghost use Rattle.listing.specs.Rows.{row-text};
 ghost use Rattle.listing.specs.Listing.{film-row, rows-of};
 ghost use Rattle.listing.specs.Cut.{Lists-cut};
 use crate::fault::ListingFault;
@@ -13,13 +8,10 @@ use crate::fault::ListingFaultFromOpen;
 use crate::fault::ListingFaultRefusal;
 use crate::fault::MAX_INPUT;
 use crate::row::Row;
-use crate::row::RowDisplay;
 use films::make::make_film;
 use ivf::IvfFrames;
 use ivf::IvfReader;
 use refusals::Fault;
-use std::alloc::AllocError;
-use std::alloc::Global;
 
 // How many totals the program has room for.
 const TOTALS: usize = 1_025;
@@ -46,8 +38,8 @@ pub fn film_row(input: &[u8]) -> Result<Row, ListingFault>
 }
 
 // The rows of a listing: the header, and then the film or what refused it.
-pub fn rows(heap: Global, input: &[u8]) -> Result<Vec<Row>, AllocError>
-    ensures { λ r. ⌜ made r (λ v. vec-items v ≡ rows-of (now (input .entry))) ⌝ }
+pub fn listing(input: &[u8]) -> [Row; 2]
+    ensures { λ r. ⌜ r ≡ rows-of (now (input .entry)) ⌝ }
 {
     let row = match film_row(input) {
         Ok(row) => row,
@@ -56,27 +48,5 @@ pub fn rows(heap: Global, input: &[u8]) -> Result<Vec<Row>, AllocError>
             place: fault.place(),
         },
     };
-    let mut rows = Vec::new(heap);
-    rows.push(Row::Header)?;
-    rows.push(row)?;
-    Ok(rows)
-}
-
-// Rows as text.
-pub fn text(heap: Global, rows: &[Row]) -> Result<String, AllocError>
-    ensures { λ r. ⌜ made r (λ s. string-bytes s ≡ joined row-text (now (rows .entry))) ⌝ }
-{
-    let mut text = String::new(heap);
-    for row in rows {
-        text.push_str(row.to_string(heap)?.as_str())?;
-    }
-    Ok(text)
-}
-
-// The listing of an input, as the program writes it.
-pub fn listing(heap: Global, input: &[u8]) -> Result<String, AllocError>
-    ensures { λ r. ⌜ made r (λ s. string-bytes s ≡ joined row-text (rows-of (now (input .entry)))) ⌝ }
-{
-    let rows = rows(heap, input)?;
-    text(heap, rows.as_slice())
+    [Row::Header, row]
 }

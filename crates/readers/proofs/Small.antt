@@ -8,26 +8,26 @@ use Rattle.std.specs.declared.option.Option.{Option}
 use Rattle.std.specs.declared.option.Option.the-variants.{Some, None}
 use Rattle.readers.specs.declared.fault.RecordFault.{RecordFault}
 use Rattle.readers.specs.Faults.{first-fault}
-use Rattle.readers.specs.Reading.{Ending, Small, record-then}
+use Rattle.readers.specs.Reading.{Ending, max-size, Small, record-then}
 
--- each check failed not
+-- no check fails
 abbrev pub Passed : {F : Type 0} → List (Bool × F) → Type 0
 Passed [] = Unit {0}
 Passed (check ∷ checks) = (check .0 ≡ false) × Passed checks
 
 pub passed : {F : Type 0} (checks : List (Bool × F)) → first-fault checks ≡ None → Passed checks
 passed [] e = tt
-passed ((true, x) ∷ checks) e = let zero-one : _≡_ {A = ℕ} 0 1 = cc in absurd (omega arith)
+passed ((true, x) ∷ checks) e = absurd (grind arith)
 passed ((false, x) ∷ checks) e = (refl, passed checks e)
 
 pub small-none : Small []
 small-none k = omega arith
 
-small-more : (size : ℕ) (sizes : List ℕ) → size ≤ 16777215 → Small sizes → Small (size ∷ sizes)
+small-more : (size : ℕ) (sizes : List ℕ) → size ≤ max-size → Small sizes → Small (size ∷ sizes)
 small-more size sizes h small zero = h
 small-more size sizes h small (suc k) = small k
 
-pub small-then : (o : Option RecordFault) (size : ℕ) (later : List ℕ × Ending) → (o ≡ None → size ≤ 16777215) → Small (later .0) → Small (record-then o size later .0)
+pub small-then : (o : Option RecordFault) (size : ℕ) (later : List ℕ × Ending) → (o ≡ None → size ≤ max-size) → Small (later .0) → Small (record-then o size later .0)
 small-then (Some e) size later h small = small-none
 small-then None size later h small = small-more size (later .0) (h refl) small
 

@@ -53,7 +53,7 @@ module _ {S I : Type 0} (meaning : S → Reading) (size : I → Option ℕ) (At 
       moves = sym (ap (λ x. rest (x .0)) e);
       ends = sym (ap (λ x. x .1) e);
     };
-    stays = λ none. let first = ap (λ x. x .0) e in let zero-one : _≡_ {A = ℕ} 0 1 = cc in absurd (omega arith);
+    stays = λ none. let first = ap (λ x. x .0) e in absurd (grind arith);
     holds = at;
   }
 

@@ -13,9 +13,12 @@ pub data Ending : Type 0 where
   plain : Ending
   fault : RecordFault → Ending
 
--- no size is above 16,777,215
+-- the largest size of a record
+abbrev pub max-size : ℕ
+max-size = 16777215
+
 abbrev pub Small : List ℕ → Type 0
-Small sizes = (k : ℕ) → getD sizes k 0 ≤ 16777215
+Small sizes = (k : ℕ) → getD sizes k 0 ≤ max-size
 
 pub record Reading : Type 0 where
   pub sizes : List ℕ

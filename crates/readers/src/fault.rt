@@ -1,5 +1,4 @@
 // Why a reader is not opened, and why a record is not handed out.
-ghost use mathlib.Core.Path.{_≡_};
 ghost use Rattle.std.specs.declared.option.Option.the-variants.{Some};
 ghost use Rattle.refusals.specs.Told.{refusal-text};
 ghost use Rattle.readers.specs.Faults.{open-refusal, record-refusal};
@@ -7,6 +6,7 @@ use refusals::Fault;
 use refusals::Layer;
 use refusals::Refusal;
 use refusals::RefusalDisplay;
+use std::error::Error;
 use std::fmt;
 
 // The largest size of a frame or sample, in bytes.
@@ -79,3 +79,7 @@ pub impl fmt::Display for RecordFault as RecordFaultDisplay {
         fmt::Display::fmt(&record, f)
     }
 }
+
+pub impl Error for OpenFault as OpenFaultError {}
+
+pub impl Error for RecordFault as RecordFaultError {}

@@ -5,7 +5,7 @@ ghost use Rattle.refusals.specs.declared.Refusal.{Refusal};
 ghost use Rattle.refusals.specs.Told.{refused, layer-text, refusal-text};
 use std::fmt;
 
-// The layers, in the order in which a film meets their checks.
+// The layers whose checks refuse.
 #[derive(Clone, Copy, Debug, PartialEq, Eq)]
 pub enum Layer {
     ReaderOpened,

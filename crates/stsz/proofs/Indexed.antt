@@ -1,22 +1,20 @@
 -- A whole sample-size box is read up to its first sample that is too large. Assumes nothing.
 use mathlib.Core.Path.{_≡_, refl, sym, ap, subst, _∙_}
 use mathlib.Core.Bool.{Bool, true, false, cond}
-use mathlib.Core.List.{List, [], _∷_, map}
+use mathlib.Core.List.{List, [], map}
 use Prim.Native.Nat.{ℕ, zero, suc, _+_, _-_, _*_, _≤_, _<_}
 use native.Mathlib.Omega.{arith}
 use lib.Dec.{eqb, ltb}
 use lib.ListN.{length}
 use Rattle.std.proofs.shelf.Tests.{lt-ltb, le-ltb, cond-true, cond-false, eq-eqb, ne-eqb, eqb-true, not-false}
 use Rattle.std.specs.Iters.{counting}
-use Rattle.std.specs.declared.option.Option.{Option}
 use Rattle.std.specs.declared.option.Option.the-variants.{Some, None}
-use Rattle.readers.specs.declared.fault.RecordFault.{RecordFault}
 use Rattle.readers.specs.declared.fault.RecordFault.the-variants.{TooLarge}
 use Rattle.readers.specs.Field.{big}
-use Rattle.stsz.specs.Stsz.{has-common, box-length, size-place, sample-fault, samples-from, stsz-reading, stsz-checks, stsz-open-fault}
+use Rattle.stsz.specs.Stsz.{has-common, box-length, size-place, samples-from, stsz-reading, stsz-checks, stsz-open-fault}
 use Rattle.readers.specs.Reading.{Ending, plain, fault, record-then}
 use Rattle.readers.proofs.Small.{passed}
-use Rattle.stsz.specs.Indexed.{samples, sample, FirstLarge, box-ending, Reads-box}
+use Rattle.stsz.specs.Indexed.{samples, sample, Reads-box}
 use Rattle.stsz.proofs.Samples.{samples-next}
 
 module _ (input : List ℕ) (common : Bool) (count k : ℕ) (inside : (j : ℕ) → j < count → size-place common j + 4 ≤ length input) where

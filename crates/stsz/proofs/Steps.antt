@@ -21,7 +21,7 @@ use Rattle.readers.proofs.Taking.{still, Stepped, stepped-end, stepped-fault, s
 use Rattle.stsz.specs.declared.IndexItem.{IndexItem}
 use Rattle.stsz.specs.declared.IndexItem.the-variants.{Record, End}
 use Rattle.stsz.specs.declared.StszReader.{StszReader}
-use Rattle.stsz.specs.Stsz.{stsz-open-fault, has-common, size-place, sample-place, sample-fault, index-size, IndexAt, IndexFault, stsz-after, stsz-reading, stsz-meaning}
+use Rattle.stsz.specs.Stsz.{StszOpened, size-place, sample-place, sample-fault, index-size, IndexAt, IndexFault, stsz-after, stsz-reading, stsz-meaning}
 use Rattle.stsz.specs.Indexed.{Reads-box}
 use Rattle.stsz.proofs.Samples.{stsz-at-end, stsz-past, stsz-at-sample}
 use Rattle.stsz.proofs.Indexed.{stsz-reads-box}
@@ -59,7 +59,7 @@ module _ (reader : StszReader) where
   pub stsz-steps : (r : Result IndexItem RecordFault) (next : StszReader) → Cases r (IndexAt reader) (IndexFault reader) → next ≡ stsz-after r reader → Steps r next
   stsz-steps r next told after = stepped-to stsz-meaning index-size (IndexAt reader) reader r (stsz-after r reader) next after (step r told)
 
-pub stsz-opens : (input : List ℕ) (r : Result StszReader OpenFault) → Cases r (λ reader. (stsz-open-fault input ≡ None) × (reader .input .now ≡ input) × (reader .common ≡ has-common input) × (reader .count ≡ big 4 16 input) × (reader .number ≡ 0)) (λ e. stsz-open-fault input ≡ Some e) → made r (λ reader. Reads-box input (stsz-meaning reader))
+pub stsz-opens : (input : List ℕ) (r : Result StszReader OpenFault) → StszOpened input r → made r (λ reader. Reads-box input (stsz-meaning reader))
 stsz-opens input (Ok reader) opened =
     let same : stsz-reading input (reader .common) (reader .count) 0 ≡ stsz-meaning reader =
     ap (λ (i : ℕ). stsz-reading input (reader .common) (reader .count) i) (sym (opened .4))

@@ -7,7 +7,7 @@ use lib.Dec.{eqb}
 use Rattle.std.specs.Iters.{counting}
 use Rattle.readers.specs.declared.fault.RecordFault.the-variants.{TooLarge}
 use Rattle.readers.specs.Field.{big}
-use Rattle.readers.specs.Reading.{Reading, Ending, plain, fault}
+use Rattle.readers.specs.Reading.{Reading, Ending, max-size, plain, fault}
 use Rattle.stsz.specs.Stsz.{has-common, size-place}
 
 -- how many samples there are
@@ -21,8 +21,8 @@ sample input i = big 4 (size-place (has-common input) i) input
 -- sample k is the first that is too large, or there are k samples and none is
 pub record FirstLarge (input : List ℕ) (k : ℕ) : Type 0 where
   pub among : k ≤ samples input
-  pub before : (i : ℕ) → i < k → sample input i ≤ 16777215
-  pub large : k < samples input → 16777215 < sample input k
+  pub before : (i : ℕ) → i < k → sample input i ≤ max-size
+  pub large : k < samples input → max-size < sample input k
 
 abbrev pub box-ending : List ℕ → ℕ → Ending
 box-ending input k = cond (eqb k (samples input)) plain (fault (TooLarge (size-place (has-common input) k)))

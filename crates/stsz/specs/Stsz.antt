@@ -9,6 +9,7 @@ use borrow.Author.Tests.{ltb-false}
 use lib.Chars.{codes}
 use lib.Dec.{ltb, eqb}
 use lib.ListN.{length, take, drop}
+use Rattle.std.specs.Results.{Cases}
 use Rattle.std.specs.shelf.Text.{sameBytes}
 use Rattle.std.specs.declared.option.Option.{Option}
 use Rattle.std.specs.declared.option.Option.the-variants.{Some, None}
@@ -24,7 +25,7 @@ use Rattle.stsz.specs.declared.IndexItem.the-variants.{Record, End}
 use Rattle.stsz.specs.declared.StszReader.{StszReader}
 use Rattle.readers.specs.Faults.{first-fault}
 use Rattle.readers.specs.Field.{big}
-use Rattle.readers.specs.Reading.{Reading, Ending, Small, nothing, record-then}
+use Rattle.readers.specs.Reading.{Reading, Ending, max-size, Small, nothing, record-then}
 use Rattle.readers.proofs.Small.{passed, small-none, small-then, small-cond}
 
 -- whether one size holds for all samples
@@ -41,12 +42,19 @@ stsz-checks input =
     (ltb (length input) 20, TooShort (length input)) ∷
     (not (sameBytes (take 4 (drop 4 input)) (codes "stsz")), NotStsz) ∷
     (not (eqb (big 4 8 input) 0), BoxVersion) ∷
-    (ltb 16777215 (big 4 12 input), CommonSize) ∷
+    (ltb max-size (big 4 12 input), CommonSize) ∷
     (not (eqb (big 4 0 input) (length input)), BoxSize) ∷
     (not (eqb (big 4 0 input) (box-length input)), BoxSize) ∷ []
 
 abbrev pub stsz-open-fault : List ℕ → Option OpenFault
 stsz-open-fault input = first-fault (stsz-checks input)
+
+-- what opening answers: a reader at sample 0, or the fault
+abbrev pub StszOpened : List ℕ → Result StszReader OpenFault → Type 0
+StszOpened input r =
+    Cases r
+    (λ reader. (stsz-open-fault input ≡ None) × (reader .input .now ≡ input) × (reader .common ≡ has-common input) × (reader .count ≡ big 4 16 input) × (reader .number ≡ 0))
+    (λ e. stsz-open-fault input ≡ Some e)
 
 -- where the size of sample i stands: for all of them in the common size, or each in its own entry
 abbrev pub size-place : (common : Bool) → ℕ → ℕ
@@ -55,7 +63,7 @@ size-place false i = 20 + 4 * i
 
 -- the check of a sample whose size stands at place p
 abbrev pub sample-checks : List ℕ → ℕ → List (Bool × RecordFault)
-sample-checks input p = (ltb 16777215 (big 4 p input), TooLarge p) ∷ []
+sample-checks input p = (ltb max-size (big 4 p input), TooLarge p) ∷ []
 
 abbrev pub sample-fault : List ℕ → ℕ → Option RecordFault
 sample-fault input p = first-fault (sample-checks input p)
@@ -72,7 +80,7 @@ pub samples-small : (left : ℕ) (common : Bool) (input : List ℕ) (i : ℕ) �
 samples-small zero common input i = small-none
 samples-small (suc left) common input i =
     small-cond (ltb (length input) (size-place common i + 4)) nothing _ small-none
-    (small-then (sample-fault input (size-place common i)) (big 4 (size-place common i) input) _ (λ e. ltb-false 16777215 (big 4 (size-place common i) input) (passed (sample-checks input (size-place common i)) e .0))
+    (small-then (sample-fault input (size-place common i)) (big 4 (size-place common i) input) _ (λ e. ltb-false max-size (big 4 (size-place common i) input) (passed (sample-checks input (size-place common i)) e .0))
     (samples-small left common input (i + 1)))
 
 abbrev pub stsz-reading : List ℕ → (common : Bool) (count i : ℕ) → Reading

@@ -8,7 +8,7 @@ ghost use Rattle.std.specs.Vec.{made};
 ghost use Rattle.std.specs.declared.option.Option.the-variants.{Some, None};
 ghost use Rattle.readers.specs.Field.{big};
 ghost use Rattle.readers.specs.Reading.{Takes};
-ghost use Rattle.stsz.specs.Stsz.{stsz-open-fault, has-common, sample-fault, sample-place, index-size, IndexAt, IndexFault, stsz-after, stsz-meaning};
+ghost use Rattle.stsz.specs.Stsz.{stsz-open-fault, StszOpened, has-common, sample-fault, sample-place, index-size, IndexAt, IndexFault, stsz-after, stsz-meaning};
 ghost use Rattle.stsz.specs.Indexed.{Reads-box};
 
 mod field;
@@ -34,7 +34,7 @@ pub enum IndexItem {
     End,
 }
 
-#[derive(Clone, Copy)]
+#[derive(Drop)]
 pub struct StszReader<'a> {
     input: &'a [u8],
     // whether one size holds for all samples
@@ -108,7 +108,7 @@ fn sample_size(input: &[u8], place: usize) -> Result<u32, RecordFault>
 
 impl<'a> StszReader<'a> {
     fn begin(input: &'a [u8]) -> Result<StszReader<'a>, OpenFault>
-        ensures { λ r. ⌜ Cases r (λ reader. (stsz-open-fault (now (input .entry)) ≡ None) × (now (reader .input) ≡ now (input .entry)) × (reader .common ≡ has-common (now (input .entry))) × (reader .count ≡ big 4 16 (now (input .entry))) × (reader .number ≡ 0)) (λ e. stsz-open-fault (now (input .entry)) ≡ Some e) ⌝ }
+        ensures { λ r. ⌜ StszOpened (now (input .entry)) r ⌝ }
     {
         let (common, count) = header(input)?;
         Ok(StszReader {
@@ -121,7 +121,7 @@ impl<'a> StszReader<'a> {
 
     // A reader at the first sample, where the box passes its checks.
     pub fn open(input: &'a [u8]) -> Result<StszReader<'a>, OpenFault>
-        ensures opened { λ r. ⌜ Cases r (λ reader. (stsz-open-fault (now (input .entry)) ≡ None) × (now (reader .input) ≡ now (input .entry)) × (reader .common ≡ has-common (now (input .entry))) × (reader .count ≡ big 4 16 (now (input .entry))) × (reader .number ≡ 0)) (λ e. stsz-open-fault (now (input .entry)) ≡ Some e) ⌝ }
+        ensures opened { λ r. ⌜ StszOpened (now (input .entry)) r ⌝ }
         ensures reads { λ r. ⌜ made r (λ reader. Reads-box (now (input .entry)) (stsz-meaning reader)) ⌝ }
     {
         StszReader::begin(input)

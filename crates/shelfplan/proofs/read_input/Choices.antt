@@ -3,4 +3,4 @@ use lib.ListN.{length}
 use Rattle.shelfplan.proofs.read_input.Given as given
 
 abbrev pub Inv-loop : given.InvT-loop
-Inv-loop l = l .held ≤ length (l .room)
+Inv-loop l = l .filled ≤ length (l .buffer)

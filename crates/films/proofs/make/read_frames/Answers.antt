@@ -2,7 +2,7 @@ use mathlib.Core.Path.{_≡_, sym, ap, subst, _∙_}
 use mathlib.Core.List.{List}
 use Prim.Native.Nat.{ℕ, _+_, _<_}
 use native.Mathlib.Omega.{arith}
-use lib.ListN.{length, getD, drop, set}
+use lib.ListN.{length, getD, drop}
 use Rattle.std.proofs.shelf.Lists.{length-set, getD-set-same}
 use Rattle.std.proofs.shelf.Results.{err-from-errBy, made-from-err}
 use Rattle.std.specs.declared.option.Option.{Option}
@@ -11,7 +11,7 @@ use Rattle.totals.specs.Totals.{total}
 use Rattle.totals.proofs.Steps.{totals-more}
 use Rattle.films.specs.declared.fault.FilmFault.{FilmFault}
 use Rattle.films.specs.Steps.{frame-check}
-use Rattle.films.proofs.Making.{SoFar, in-room, let-in, at-fault, at-plain-end, at-size, at-overfull, made-of}
+use Rattle.films.proofs.Making.{in-room, let-in, at-fault, at-plain-end, at-size, at-overfull, made-of}
 use Rattle.films.proofs.make.read_frames.Needs as need
 
 pub returns-in-Break-size : need.returns-in-Break-size
