@@ -1,4 +1,4 @@
--- What the inner functions of film making answer, for one record. Assumes nothing.
+-- What the private functions of film making answer; no public contract cites these. Assumes nothing.
 use mathlib.Core.Bool.{cond}
 use mathlib.Core.List.{List, _++_}
 use Prim.Native.Nat.{ℕ, _+_, _-_}
@@ -27,7 +27,7 @@ frame-check frames room =
     cond (ltb frames 65535) (cond (ltb (frames + 1) room) (Ok tt) (Err (NoEntryLeft frames)))
     (Err (TooManyFrames frames))
 
--- the entries of a film, and zeros behind them
+-- the entries of a film, and zeros after them
 abbrev pub kept-totals : Result ℕ FilmFault → List ℕ → List ℕ
 kept-totals (Ok frames) memory = take (frames + 1) memory ++ replicate (length memory - (frames + 1)) 0
 kept-totals (Err e) memory = replicate (length memory) 0

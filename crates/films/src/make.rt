@@ -56,7 +56,7 @@ fn add_frame(totals: &mut [u64], frames: usize, size: u32) -> Result<(), FilmFau
     Ok(())
 }
 
-// A film of so many frames.
+// The count of a film that has frames, or the refusal of one that has none.
 fn film_of(frames: usize) -> Result<usize, FilmFault>
     ensures { λ r. ⌜ r ≡ at-film-end plain frames ⌝ }
 {
@@ -93,7 +93,7 @@ fn clear_from(totals: &mut [u64], from: usize)
     }
 }
 
-// Keeps the totals of a film, and no entry else.
+// Sets the entries after the totals of a film to 0, or all where there is none.
 fn clear_rest(totals: &mut [u64], film: &Result<usize, FilmFault>)
     requires { ⌜ made (now film) (λ frames. frames < length (now totals)) ⌝ }
     ensures { λ _. ⌜ now (totals .exit) ≡ kept-totals (now (film .entry)) (now (totals .entry)) ⌝ }

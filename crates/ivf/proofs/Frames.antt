@@ -41,7 +41,7 @@ module _ (input : List ℕ) where
   pub ivf-at-end : (p : ℕ) → length input ≤ p → still (ivf-reading input p) ≡ nothing
   ivf-at-end p h = frames-end (length input) p h
 
-  -- before it comes a frame and what lies behind it, or the fault that its checks give
+  -- before it comes a frame and what follows it, or the fault that its checks give
   pub ivf-at-frame : (p size : ℕ) (o : Option RecordFault) → p < length input → frame-fault input p ≡ o → size ≡ little 4 p input → still (ivf-reading input p) ≡ record-then o size (still (ivf-reading input (p + 12 + size)))
   ivf-at-frame p size o l e is =
       frames-next (length input) p o l (omega arith) e

@@ -66,7 +66,7 @@ size-there shot n pre p h head =
     ∙ little-written 4 (shot-size shot) pre (take (n - 4) (low-first 8 (shot .stamp) ++ shot .held)) p h (size-fits (shot-size shot) (shot .small))
 
 module _ (broken : Shot) (n : ℕ) (part : n < length (shot-bytes broken)) where
-  -- behind all whole frames
+  -- after all whole frames
   at-cut : (input pre : List ℕ) (p : ℕ) → input ≡ pre ++ take n (shot-bytes broken) → length pre ≡ p → still (ivf-reading input p) ≡ ([], cut-ending p n)
   at-cut input pre p is h =
       let long : length input ≡ p + n = omega (arith, ap length is, length-append pre (take n (shot-bytes broken)), length-take-le n (shot-bytes broken) (omega arith)) in
@@ -89,10 +89,10 @@ module _ (broken : Shot) (n : ℕ) (part : n < length (shot-bytes broken)) where
       let here : input ≡ pre ++ (shot-bytes shot ++ rest) = is ∙ ap (λ (bs : List ℕ). pre ++ bs) (append-assoc (shot-bytes shot) (joined shot-bytes whole) (take n (shot-bytes broken))) in
       let long : length input ≡ p + (12 + shot-size shot + length rest) = omega (arith, ap length here, length-append pre (shot-bytes shot ++ rest), length-append (shot-bytes shot) rest, length-shot shot) in
       let size : little 4 p input ≡ shot-size shot = ap (little 4 p) here ∙ little-written 4 (shot-size shot) pre _ p h (size-fits (shot-size shot) (shot .small)) in
-      let behind = reads-cut whole input (pre ++ shot-bytes shot) (p + 12 + shot-size shot) (here ∙ sym (append-assoc pre (shot-bytes shot) rest)) (omega (arith, length-append pre (shot-bytes shot), length-shot shot)) in
+      let next = reads-cut whole input (pre ++ shot-bytes shot) (p + 12 + shot-size shot) (here ∙ sym (append-assoc pre (shot-bytes shot) rest)) (omega (arith, length-append pre (shot-bytes shot), length-shot shot)) in
       let place : p + 12 + shot-size shot + length (joined shot-bytes whole) ≡ p + length (shot-bytes shot ++ joined shot-bytes whole) = omega (arith, length-append (shot-bytes shot) (joined shot-bytes whole), length-shot shot) in
       ivf-at-frame input p (shot-size shot) None (omega arith) (passes input p (shot-size shot) (12 + shot-size shot + length rest) long (shot .small) size (omega arith)) (sym size)
-      ∙ ap (λ (later : List ℕ × Ending). (shot-size shot ∷ later .0, later .1)) behind
+      ∙ ap (λ (later : List ℕ × Ending). (shot-size shot ∷ later .0, later .1)) next
       ∙ ap (λ (q : ℕ). (shot-size shot ∷ map shot-size whole, cut-ending q n)) place
 
 pub ivf-reads-cut : (input : List ℕ) → Reads-cut input (ivf-reading input 32)

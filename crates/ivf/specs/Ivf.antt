@@ -73,7 +73,7 @@ abbrev pub item-size : IvfItem → Option ℕ
 item-size (Frame frame) = Some (frame .size)
 item-size End = None
 
--- the reader after an answer: behind the frame's data, or where it was
+-- the reader after an answer: past the frame's data, or where it was
 abbrev pub ivf-after : Result IvfItem RecordFault → IvfReader → IvfReader
 ivf-after (Ok (Frame frame)) reader = record { input = reader .input; place = frame .place + frame .size }
 ivf-after (Ok End) reader = reader

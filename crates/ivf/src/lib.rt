@@ -57,7 +57,7 @@ pub impl Item for IvfItem<'_> as IvfItemSize {
     }
 }
 
-// The checks of a frame at a place before the input's end; its size.
+// Checks the frame at a place before the input's end, and answers its size.
 fn frame_size(input: &[u8], place: usize) -> Result<u32, RecordFault>
     requires { ⌜ place < length (now input) ⌝ }
     ensures { λ r. ⌜ Cases r (λ size. (frame-fault (now (input .entry)) place ≡ None) × (size ≡ little 4 place (now (input .entry))) × (place + 12 + size ≤ length (now (input .entry)))) (λ e. frame-fault (now (input .entry)) place ≡ Some e) ⌝ }
@@ -76,7 +76,7 @@ fn frame_size(input: &[u8], place: usize) -> Result<u32, RecordFault>
     Ok(size)
 }
 
-// The frame whose header is at a place, with all its data behind.
+// The frame whose header is at a place, where all its data is there.
 fn frame_at<'a>(input: &'a [u8], place: usize, size: u32) -> Frame<'a>
     requires { ⌜ place + 12 + size ≤ length (now input) ⌝ }
     ensures held { λ r. ⌜ now (r .«data») ≡ take size (drop (place + 12) (now (input .entry))) ⌝ }
@@ -123,7 +123,7 @@ impl<'a> IvfReader<'a> {
         IvfReader::begin(input)
     }
 
-    // The item at the reader's place; the reader goes on behind a frame.
+    // The item at the reader's place; the reader moves past a frame.
     fn step(&mut self) -> Result<IvfItem<'a>, RecordFault>
         ensures told { λ r. ⌜ Cases r (ItemAt (now (now (self .entry) .input)) (now (self .entry) .place)) (FaultAt (now (now (self .entry) .input)) (now (self .entry) .place)) ⌝ }
         ensures after { λ r. ⌜ now (self .exit) ≡ ivf-after r (now (self .entry)) ⌝ }

@@ -24,7 +24,7 @@ abbrev pub of-film : Result ℕ FilmFault → List ℕ → Result Row ListingFau
 of-film (Ok slots) sizes = Ok (rows.Film slots (sum sizes))
 of-film (Err e) sizes = Err (Film e)
 
--- the frames behind the header, with 1,025 totals, where a reader is opened
+-- the frames after the header, with 1,025 totals, where a reader is opened
 abbrev pub of-opened : Option OpenFault → List ℕ → Result Row ListingFault
 of-opened (Some e) input = Err (Opened e)
 of-opened None input = of-film (film-result (ivf-reading input 32) 1025) (ivf-reading input 32 .sizes)

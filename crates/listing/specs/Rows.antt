@@ -1,4 +1,4 @@
--- How a row is written: fields apart by commas, and CR LF behind them. Assumes nothing.
+-- How a row is written: fields separated by commas, ended by CR LF. Assumes nothing.
 use mathlib.Core.List.{List, _++_}
 use Prim.Native.Nat.{ℕ}
 use lib.Chars.{codes}

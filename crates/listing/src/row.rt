@@ -1,4 +1,4 @@
-// Rows as RFC 4180 has them: fields apart by commas, and CR LF behind each row.
+// Rows as RFC 4180 has them: fields separated by commas, each row ended by CR LF.
 ghost use Rattle.std.specs.declared.option.Option.the-variants.{Some};
 ghost use Rattle.listing.specs.Rows.{row-text};
 use std::fmt;

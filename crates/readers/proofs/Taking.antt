@@ -45,7 +45,7 @@ module _ {S I : Type 0} (meaning : S → Reading) (size : I → Option ℕ) (At 
     holds = tt;
   }
 
-  -- the record is given: the reader goes on behind it
+  -- the record is given: the reader moves past it
   pub stepped-on : (item : I) (n : ℕ) (next : S) → At item → size item ≡ Some n → still (meaning reader) ≡ (n ∷ meaning next .sizes, meaning next .ending) → Stepped meaning size At reader (Ok item) next
   stepped-on item n next at some e = record {
     takes = record {

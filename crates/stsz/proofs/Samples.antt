@@ -29,7 +29,7 @@ module _ (input : List ℕ) (common : Bool) where
       ∙ ap (λ (q : Option RecordFault). record-then q (big 4 (size-place common i) input) (samples-from later common input (i + 1))) e
 
   module _ (count i : ℕ) where
-    -- behind the last sample nothing comes
+    -- after the last sample nothing comes
     pub stsz-at-end : count ≤ i → still (stsz-reading input common count i) ≡ nothing
     stsz-at-end h = samples-none (count - i) i (omega arith)
 

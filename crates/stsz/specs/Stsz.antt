@@ -98,7 +98,7 @@ abbrev pub index-size : IndexItem → Option ℕ
 index-size (Record r) = Some (r .size)
 index-size End = None
 
--- where the size of the reader's next sample stands: nowhere behind the last one, or past the input's end
+-- where the size of the reader's next sample stands: nowhere after the last one, or past the input's end
 abbrev pub sample-place : StszReader → Option ℕ
 sample-place reader =
     cond (ltb (reader .number) (reader .count))

@@ -62,7 +62,7 @@ pub impl Weight for IndexRecord as IndexRecordWeight {
     }
 }
 
-// The checks of a whole box: whether one size holds for all samples, and their count.
+// Checks a whole box, and answers whether one size holds for all samples, and their count.
 fn header(input: &[u8]) -> Result<(bool, u32), OpenFault>
     ensures { λ r. ⌜ Cases r (λ h. (stsz-open-fault (now (input .entry)) ≡ None) × (h .0 ≡ has-common (now (input .entry))) × (h .1 ≡ big 4 16 (now (input .entry)))) (λ e. stsz-open-fault (now (input .entry)) ≡ Some e) ⌝ }
 {
@@ -94,7 +94,7 @@ fn header(input: &[u8]) -> Result<(bool, u32), OpenFault>
     Ok((common, count))
 }
 
-// The check of a sample whose size stands at a place of the input; its size.
+// Checks the sample whose size stands at a place of the input, and answers that size.
 fn sample_size(input: &[u8], place: usize) -> Result<u32, RecordFault>
     requires { ⌜ place + 4 ≤ length (now input) ⌝ }
     ensures { λ r. ⌜ Cases r (λ size. (sample-fault (now (input .entry)) place ≡ None) × (size ≡ big 4 place (now (input .entry)))) (λ e. sample-fault (now (input .entry)) place ≡ Some e) ⌝ }
@@ -145,7 +145,7 @@ impl<'a> StszReader<'a> {
         Some(place)
     }
 
-    // The item at the reader's number; the reader goes on behind a record.
+    // The item at the reader's number; the reader moves past a record.
     fn step(&mut self) -> Result<IndexItem, RecordFault>
         ensures told { λ r. ⌜ Cases r (IndexAt (now (self .entry))) (IndexFault (now (self .entry))) ⌝ }
         ensures after { λ r. ⌜ now (self .exit) ≡ stsz-after r (now (self .entry)) ⌝ }

@@ -1,4 +1,4 @@
-// Running totals over anything that has a weight. For the crates above; no user calls it.
+// Running totals over anything that has a weight. Inner: offered to no user.
 ghost use mathlib.Core.Path.{_≡_};
 ghost use mathlib.Core.List.{map};
 ghost use Prim.Native.Nat.{ℕ, _+_, _≤_};
