@@ -1,5 +1,8 @@
 // Runs the cases on standard input, one a line: a source and its set-ups, then the layers over it, and tells what the
 // envelope answers.
+
+#![tactic(auto)]
+
 use anyhow::anyhow;
 use envelopes::Envelope;
 use layers::buffer::Buffer;

@@ -1,4 +1,7 @@
 // What an envelope is: it tells how many bytes may have been sent by the end of each slot.
+
+#![tactic(auto)]
+
 ghost use Rattle.std.specs.Prelude.{◌≡◌};
 ghost use Rattle.envelopes.specs.Bounds.{Bounds, Limit};
 ghost use Rattle.envelopes.specs.Either.{either_bounds};

@@ -1,4 +1,7 @@
 // Runs the cases on standard input, one a line: a kind, how many totals there is room for, and a file in hex.
+
+#![tactic(auto)]
+
 use anyhow::anyhow;
 use films::make::make_film;
 use ivf::{IvfItem, IvfReader};

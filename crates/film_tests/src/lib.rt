@@ -1,4 +1,7 @@
 // Tests of what the contracts of the film crates leave to examples.
+
+#![tactic(auto)]
+
 #[cfg(test)]
 mod tests {
     use films::fault::FilmFault;

@@ -1,4 +1,7 @@
 // IVF files, as libvpx writes them: a header of 32 bytes, then frames.
+
+#![tactic(auto)]
+
 ghost use Rattle.std.specs.Prelude.{◌≡◌, ◌+◌, ◌<◌, ◌≤◌, [], length, take, drop, IfOk, Some, None, MatchResult};
 ghost use Rattle.readers.specs.Reading.{Takes};
 ghost use Rattle.readers.specs.Field.{little};

@@ -1,3 +1,6 @@
 // What a reader of a film file is, and why one refuses.
+
+#![tactic(auto)]
+
 pub mod fault;
 pub mod reader;

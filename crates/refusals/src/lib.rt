@@ -1,4 +1,7 @@
 // What every refusal tells: the layer whose check refused, the number of the check, and a place.
+
+#![tactic(auto)]
+
 ghost use Rattle.std.specs.Prelude.{◌≡◌, Some};
 ghost use Rattle.refusals.specs.declared.Refusal.{Refusal};
 ghost use Rattle.refusals.specs.Told.{refused, layer_text, refusal_text};

@@ -1,4 +1,7 @@
 // A run of a plan: some slots, and the bytes that are sent in them together.
+
+#![tactic(auto)]
+
 ghost use Rattle.std.specs.Prelude.{◌≡◌, ◌≤◌, MatchOption};
 ghost use Rattle.runs.specs.Range.{InRange};
 

@@ -1,4 +1,7 @@
 // Lists the IVF film on standard input: how much film it holds, or what refused it and where.
+
+#![tactic(auto)]
+
 ghost use Rattle.std.specs.Prelude.{◌≤◌, length};
 
 use listing::list::listing;

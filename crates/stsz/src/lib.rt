@@ -1,4 +1,7 @@
 // Sample-size boxes of ISO/IEC 14496-12: one size for all samples, or a table of sizes.
+
+#![tactic(auto)]
+
 ghost use Rattle.std.specs.Prelude.{◌≡◌, ◌+◌, ◌≤◌, [], length, IfOk, Some, None, MatchResult};
 ghost use Rattle.readers.specs.Field.{big};
 ghost use Rattle.readers.specs.Reading.{Takes};

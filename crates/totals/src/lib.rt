@@ -1,4 +1,7 @@
 // Running totals over anything that has a weight. Inner: offered to no user.
+
+#![tactic(auto)]
+
 ghost use Rattle.std.specs.Prelude.{◌≡◌, ℕ, ◌+◌, ◌≤◌, map, length};
 ghost use Rattle.totals.specs.Totals.{totals_of};
 
@@ -27,7 +30,7 @@ impl Weight for u32 {
 pub fn running_totals<W: Weight>(records: &[W], totals: &mut [u64])
     requires few { length records.now ≤ 1048575 }
     requires room { length totals.old ≡ length records.now + 1 }
-    ensures { totals.new ≡ totals_of (map weighs records.now) }
+    ensures { totals.new ≡ totals_of (map W.weighs records.now) }
 {
     totals[0] = 0;
     for (i, record) in records.iter().enumerate() {

@@ -6,7 +6,7 @@ pub returns-then-not-entry-fits : goal.returns-then-not-entry-fits
 returns-then-not-entry-fits c = sym (one_does_not c.args.totals.now c.loop-k.k c.loop-k-test.true (sym c.if-not-entry-fits.ensures)) ∙ c.loop-k.invariant
 
 pub loop-k-preserved : goal.loop-k-preserved
-loop-k-preserved c = sym (one_fits c.args.totals.now c.loop-k.k c.loop-k-test.true (sym c.if-not-entry-fits.ensures)) ∙ c.loop-k.invariant
+loop-k-preserved c = sym (one_fits c.args.totals.now c.loop-k.k c.loop-k-test.true (sym c.if-not-entry_fits.ensures)) ∙ c.loop-k.invariant
 
 pub returns : goal.returns
 returns c =
