@@ -24,9 +24,9 @@ fn with_frames<I>(res: Result<I, RecordFault>, frames: usize) -> Result<I, (Reco
 
 // The size of the next frame, if one comes.
 fn next_size<R: Reader>(reader: &mut R, frames: usize) -> Result<Option<u32>, FilmFault>
-    ensures tells { result ≡ film_answer (answer (reading reader.old).sizes (reading reader.old).ending) frames }
-    ensures moves { (reading reader.new).sizes ≡ rest (reading reader.old).sizes }
-    ensures ends { (reading reader.new).ending ≡ (reading reader.old).ending }
+    ensures tells { result ≡ film_answer (answer (R.reading reader.old).sizes (R.reading reader.old).ending) frames }
+    ensures moves { (R.reading reader.new).sizes ≡ rest (R.reading reader.old).sizes }
+    ensures ends { (R.reading reader.new).ending ≡ (R.reading reader.old).ending }
 {
     let item = with_frames(reader.next(), frames)?;
     Ok(item.size())
@@ -62,10 +62,10 @@ fn film_of(frames: usize) -> Result<usize, FilmFault>
 // Reads to the end and puts in a total for each frame.
 fn read_frames<R: Reader>(reader: &mut R, totals: &mut [u64]) -> Result<usize, FilmFault>
     requires { 0 < length totals.old }
-    ensures result { result ≡ film_result (reading reader.old) (length totals.old) }
-    ensures totals { IfOk result (λ frames. (frames < length totals.old) × (frames ≡ length (reading reader.old).sizes) × ((k : ℕ) → k < frames + 1 → slice_index totals.new k ≡ total (reading reader.old).sizes k)) }
-    ensures left { (reading reader.new).sizes ≡ drop (min 65536 (length totals.old)) (reading reader.old).sizes }
-    ensures ending { (reading reader.new).ending ≡ (reading reader.old).ending }
+    ensures result { result ≡ film_result (R.reading reader.old) (length totals.old) }
+    ensures totals { IfOk result (λ frames. (frames < length totals.old) × (frames ≡ length (R.reading reader.old).sizes) × ((k : ℕ) → k < frames + 1 → slice_index totals.new k ≡ total (R.reading reader.old).sizes k)) }
+    ensures left { (R.reading reader.new).sizes ≡ drop (min 65536 (length totals.old)) (R.reading reader.old).sizes }
+    ensures ending { (R.reading reader.new).ending ≡ (R.reading reader.old).ending }
 {
     totals[0] = 0;
     let mut frames = 0;
@@ -100,10 +100,10 @@ fn clear_rest(totals: &mut [u64], film: &Result<usize, FilmFault>)
 // Reads to the end, writes the totals L(0) to L(N) and then zeros, and answers N. Where it refuses, all of the
 // memory is 0.
 pub fn make_film<R: Reader>(reader: &mut R, totals: &mut [u64]) -> Result<usize, FilmFault>
-    ensures result { result ≡ film_result (reading reader.old) (length totals.old) }
-    ensures memory { totals.new ≡ film_memory result (reading reader.old).sizes (length totals.old) }
-    ensures left { (reading reader.new).sizes ≡ drop (min 65536 (length totals.old)) (reading reader.old).sizes }
-    ensures ending { (reading reader.new).ending ≡ (reading reader.old).ending }
+    ensures result { result ≡ film_result (R.reading reader.old) (length totals.old) }
+    ensures memory { totals.new ≡ film_memory result (R.reading reader.old).sizes (length totals.old) }
+    ensures left { (R.reading reader.new).sizes ≡ drop (min 65536 (length totals.old)) (R.reading reader.old).sizes }
+    ensures ending { (R.reading reader.new).ending ≡ (R.reading reader.old).ending }
     ensures unread { length totals.old ≡ 0 → reader.new ≡ reader.old }
 {
     if totals.is_empty() {

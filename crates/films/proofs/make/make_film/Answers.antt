@@ -4,11 +4,11 @@ use Rattle.std.proofs.lemmas.Bool.{cond-true, eqb-true, eq-eqb, false≢true}
 use Rattle.films.proofs.Making.{kept_is_film}
 use Rattle.films.proofs.make.make_film.Goals as goal
 
-pub returns-then-is-empty : goal.returns-then-is-empty
-returns-then-is-empty g c =
-    let none : length c.args.totals.now ≡ 0 = eqb-true _ _ (sym c.if-is-empty.ensures) in
+pub returns-then-is_empty : goal.returns-then-is_empty
+returns-then-is_empty g c =
+    let none : length c.args.totals.now ≡ 0 = eqb-true _ _ (sym c.if-is_empty.ensures) in
     record {
-      result = sym (cond-true (eqb (length c.args.totals.now) 0) _ _ (sym c.if-is-empty.ensures));
+      result = sym (cond-true (eqb (length c.args.totals.now) 0) _ _ (sym c.if-is_empty.ensures));
       memory = nil_from_length _ none ∙ sym (ap (λ (n : ℕ). replicate {A = ℕ} n 0) none);
       left = sym (ap (λ (n : ℕ). drop (min 65536 n) (g.R.Reader.reading c.args.reader.now).sizes) none);
       ending = refl;
@@ -17,12 +17,12 @@ returns-then-is-empty g c =
 
 pub returns : goal.returns
 returns g c =
-    let film = c.read-frames-film.ensures in
+    let film = c.read_frames-film.ensures in
     let sizes = (g.R.Reader.reading c.args.reader.now).sizes in
     record {
       result = film.result;
-      memory = c.clear-rest.ensures ∙ kept_is_film c.read-frames-film.result sizes c.read-frames-film.new.totals (length c.args.totals.now) c.read-frames-film.auto.totals film.totals;
+      memory = c.clear_rest.ensures ∙ kept_is_film c.read_frames-film.result sizes c.read_frames-film.new.totals (length c.args.totals.now) c.read_frames-film.auto.totals film.totals;
       left = film.left;
       ending = film.ending;
-      unread = λ none. absurd (false≢true (c.if-is-empty.ensures ∙ eq-eqb _ _ none));
+      unread = λ none. absurd (false≢true (c.if-is_empty.ensures ∙ eq-eqb _ _ none));
     }

@@ -8,30 +8,30 @@ use Rattle.films.specs.Steps.{frame_check}
 use Rattle.films.proofs.Making.{in_room, let_in, at_fault, at_plain_end, at_size, at_overfull, made_of}
 use Rattle.films.proofs.make.read_frames.Goals as goal
 
-pub returns-in-err-size : goal.returns-in-err-size
-returns-in-err-size g c =
+pub returns-in_err-size : goal.returns-in_err-size
+returns-in_err-size g c =
     let so = in_room (length c.args.totals.now) (c.loop-size.auto.totals ∙ length-set c.args.totals.now 0 0) c.loop-size.invariant.0 in
-    let p = err_from_is_err_and c.from-residual.result c.from-residual.ensures.1 in
-    let at = at_fault so _ (sym c.next-size.ensures.tells ∙ c.in-err-size.was) in
+    let p = err_from_is_err_and c.from_residual.result c.from_residual.ensures.1 in
+    let at = at_fault so _ (sym c.next_size.ensures.tells ∙ c.in_err-size.was) in
     record {
       result = p.1 ∙ ap (λ (e : FilmFault). Err e) p.2 ∙ sym at.0;
-      totals = IfOk-from_err _ _ c.from-residual.ensures.0;
-      left = c.next-size.ensures.moves ∙ at.1;
-      ending = c.next-size.ensures.ends ∙ so.same;
+      totals = IfOk-from_err _ _ c.from_residual.ensures.0;
+      left = c.next_size.ensures.moves ∙ at.1;
+      ending = c.next_size.ensures.ends ∙ so.same;
     }
 
-pub returns-in-err-add-frame : goal.returns-in-err-add-frame
-returns-in-err-add-frame g c =
+pub returns-in_err-add_frame : goal.returns-in_err-add_frame
+returns-in_err-add_frame g c =
     let room = c.loop-size.auto.totals ∙ length-set c.args.totals.now 0 0 in
     let so = in_room (length c.args.totals.now) room c.loop-size.invariant.0 in
-    let p = err_from_is_err_and c.from-residual-in-err-add-frame.result c.from-residual-in-err-add-frame.ensures.1 in
-    let size = at_size so c.in-Some.size (sym c.next-size.ensures.tells ∙ c.in-ok-size.was ∙ ap (λ (o : Option ℕ). Ok o) c.in-Some.is) in
-    let at = at_overfull so c.in-err-add-frame.field-0.0 size.0 (ap (frame_check c.loop-size.frames) (sym room) ∙ sym c.add-frame.ensures.checked ∙ c.in-err-add-frame.was) in
+    let p = err_from_is_err_and c.from_residual-in_err-add_frame.result c.from_residual-in_err-add_frame.ensures.1 in
+    let size = at_size so c.in-Some.size (sym c.next_size.ensures.tells ∙ c.in_ok-size.was ∙ ap (λ (o : Option ℕ). Ok o) c.in-Some.is) in
+    let at = at_overfull so c.in_err-add_frame.field-0.0 size.0 (ap (frame_check c.loop-size.frames) (sym room) ∙ sym c.add_frame.ensures.checked ∙ c.in_err-add_frame.was) in
     record {
       result = p.1 ∙ ap (λ (e : FilmFault). Err e) p.2 ∙ sym at.0;
-      totals = IfOk-from_err _ _ c.from-residual-in-err-add-frame.ensures.0;
-      left = c.next-size.ensures.moves ∙ size.2 ∙ ap (λ (n : ℕ). drop n (g.R.Reader.reading c.args.reader.now).sizes) at.1;
-      ending = c.next-size.ensures.ends ∙ so.same;
+      totals = IfOk-from_err _ _ c.from_residual-in_err-add_frame.ensures.0;
+      left = c.next_size.ensures.moves ∙ size.2 ∙ ap (λ (n : ℕ). drop n (g.R.Reader.reading c.args.reader.now).sizes) at.1;
+      ending = c.next_size.ensures.ends ∙ so.same;
     }
 
 pub loop-size-preserved : goal.loop-size-preserved
@@ -40,18 +40,18 @@ loop-size-preserved g c =
     let before = g.R.Reader.reading c.args.reader.now in
     let memory = c.loop-size.totals in
     let frames = c.loop-size.frames in
-    let size = at_size so c.in-Some.size (sym c.next-size.ensures.tells ∙ c.in-ok-size.was ∙ ap (λ (o : Option ℕ). Ok o) c.in-Some.is) in
+    let size = at_size so c.in-Some.size (sym c.next_size.ensures.tells ∙ c.in_ok-size.was ∙ ap (λ (o : Option ℕ). Ok o) c.in-Some.is) in
     let more = size.0 in
-    let fits = let_in frames (length memory) c.in-ok-add-frame.field-0 c.in-ok-add-frame.ensures.checked in
+    let fits = let_in frames (length memory) c.in_ok-add_frame.field-0 c.in_ok-add_frame.ensures.checked in
     let room : frames + 1 < length memory = fits.1 in
-    let written = c.in-ok-add-frame.ensures.after in
+    let written = c.in_ok-add_frame.ensures.after in
     let next = ap (λ (m : List ℕ). get_or m (frames + 1) 0) written ∙ get_or-set_same memory (frames + 1) (get_or memory frames 0 + c.in-Some.size) 0 room in (
       record {
         few = omega (arith, fits.0);
         within = omega (arith, room, ap length written, length-set memory (frames + 1) (get_or memory frames 0 + c.in-Some.size));
         counted = omega (arith, more);
-        reached = c.next-size.ensures.moves ∙ size.2;
-        same = c.next-size.ensures.ends ∙ so.same;
+        reached = c.next_size.ensures.moves ∙ size.2;
+        same = c.next_size.ensures.ends ∙ so.same;
       },
       omega (arith, next, c.loop-size.invariant.1, size.1, before.small frames),
       subst (λ (m : List ℕ). (k : ℕ) → k < frames + 1 + 1 → get_or m k 0 ≡ total before.sizes k) (sym written)
@@ -61,10 +61,10 @@ loop-size-preserved g c =
 pub returns : goal.returns
 returns g c =
     let so = in_room (length c.args.totals.now) (c.loop-size.auto.totals ∙ length-set c.args.totals.now 0 0) c.loop-size.invariant.0 in
-    let at = at_plain_end so (sym c.next-size.ensures.tells ∙ c.in-ok-size.was ∙ ap (λ (o : Option ℕ). Ok o) c.in-default.is) in
+    let at = at_plain_end so (sym c.next_size.ensures.tells ∙ c.in_ok-size.was ∙ ap (λ (o : Option ℕ). Ok o) c.in_default.is) in
     record {
-      result = c.film-of.ensures ∙ sym at.1;
-      totals = made_of c.loop-size.frames c.film-of.result _ c.film-of.ensures (so.within, at.0, c.loop-size.invariant.2);
-      left = c.next-size.ensures.moves ∙ at.2;
-      ending = c.next-size.ensures.ends ∙ so.same;
+      result = c.film_of.ensures ∙ sym at.1;
+      totals = made_of c.loop-size.frames c.film_of.result _ c.film_of.ensures (so.within, at.0, c.loop-size.invariant.2);
+      left = c.next_size.ensures.moves ∙ at.2;
+      ending = c.next_size.ensures.ends ∙ so.same;
     }

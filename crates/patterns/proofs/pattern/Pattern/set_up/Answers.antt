@@ -3,7 +3,7 @@ use Rattle.patterns.specs.Checks.{pattern_fault}
 use Rattle.patterns.proofs.Checked.{unrefused}
 use Rattle.patterns.proofs.pattern.Pattern.set_up.Goals as goal
 
-pub invariant-of-self : goal.invariant-of-self
-invariant-of-self c =
-    let fits = unrefused c.args.group.now c.args.slots (no_fault (pattern_fault c.args.group.now c.args.slots) c.in-ok-check-pattern.field-0 c.in-ok-check-pattern.ensures) in
-    (fits, (c.sums-of-sums.ensures.long, (c.sums-of-sums.ensures.summed, tt)))
+pub invariant_of-self : goal.invariant_of-self
+invariant_of-self c =
+    let fits = unrefused c.args.group.now c.args.slots (no_fault (pattern_fault c.args.group.now c.args.slots) c.in_ok-check_pattern.field-0 c.in_ok-check_pattern.ensures) in
+    record { fits = fits; long = c.sums_of-sums.ensures.long; summed = c.sums_of-sums.ensures.summed }

@@ -7,8 +7,8 @@ use Rattle.patterns.proofs.pattern.set_up.sums_of.Goals as goal
 pub returns : goal.returns
 returns c =
     let group = c.args.group.now in
-    let written = c.running-totals.new.totals in
-    let is : written ≡ totals_of group = c.running-totals.ensures ∙ ap totals_of (map-id group) in
+    let written = c.running_totals.new.totals in
+    let is : written ≡ totals_of group = c.running_totals.ensures ∙ ap totals_of (map-id group) in
     let long : length written ≡ length group + 1 = ap length is ∙ totals_length group in
     record {
       long = length-append written _ ∙ omega (arith, long, c.requires, length-drop {A = ℕ} (length group + 1) (replicate 17 0));
