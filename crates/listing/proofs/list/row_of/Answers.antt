@@ -4,7 +4,7 @@ use Rattle.films.proofs.Laws.{film_made}
 use Rattle.listing.proofs.Opened.{opened_row}
 use Rattle.listing.proofs.list.row_of.Goals as goal
 
-within : (c : goal.In-ok-slots-unread) → c.in_ok-slots.slots < 1025
+within : (c : goal.In_ok-slots-unread) → c.in_ok-slots.slots < 1025
 within c = (film_made (ivf_meaning c.in_ok-reader.reader) 1025 _ (sym c.in_ok-slots.ensures.result)).within
 
 pub bounds-totals-slots : goal.bounds-totals-slots
