@@ -96,7 +96,7 @@ fn first<E: Envelope + Drop>(
     put_on!(heap, layers, below, second)
 }
 
-fn numbered(layer: &str) -> anyhow::Result<Numbered> {
+fn layer_of(layer: &str) -> anyhow::Result<Numbered> {
     let (kind, number) = layer.split_once(' ').unwrap_or((layer, ""));
     match kind {
         "delay" => Ok(Numbered::Delay(Delay::new(number.parse::<usize>()?)?)),
@@ -111,7 +111,7 @@ fn layers_of(heap: Global, text: &str) -> anyhow::Result<Vec<Numbered>> {
     let mut layers = Vec::new(heap);
     for layer in text.split(';') {
         if !layer.is_empty() {
-            layers.push(numbered(layer)?)?;
+            layers.push(layer_of(layer)?)?;
         }
     }
     Ok(layers)

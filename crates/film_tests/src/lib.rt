@@ -103,7 +103,7 @@ mod tests {
         let IvfItem::Frame(frame) = reader.next()? else {
             return Err(Fail::new("no second frame"));
         };
-        assert_eq!(rt; frame.data, &[60, 70]);
+        assert_eq!(rt; frame.data, [60, 70].as_slice());
         assert_eq!(rt; (frame.place, frame.size, frame.stamp), (57, 2, 258));
         assert!(rt; reader.next()?.size().is_none());
         Ok(())
