@@ -2,7 +2,7 @@
 use Rattle.std.specs.Prelude.{◌≡◌, ℕ, ◌+◌, ◌-◌, ◌≤◌, min, cond, ◌==◌}
 use Rattle.std.proofs.Common.{ap, arith}
 use Rattle.std.proofs.lemmas.Bool.{eqb-true, cond_both}
-use Rattle.envelopes.specs.Bounds.{Bounds, Limit, max_bytes}
+use Rattle.envelopes.specs.Bounds.{Bounds, max_bytes}
 use Rattle.envelopes.specs.Cut.{up_to}
 use Rattle.envelopes.proofs.Limits.{limit_le}
 

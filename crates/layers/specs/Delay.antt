@@ -2,7 +2,7 @@
 use Rattle.std.specs.Prelude.{◌≡◌, ℕ, ◌+◌, ◌-◌, ◌≤◌, min, cond, nat_lt}
 use Rattle.std.proofs.Common.{sym, ◌∙◌, arith}
 use Rattle.std.proofs.lemmas.Bool.{ltb-true, ltb-false, cond_both}
-use Rattle.envelopes.specs.Bounds.{Bounds, Limit, max_slots, max_bytes}
+use Rattle.envelopes.specs.Bounds.{Bounds, max_slots, max_bytes}
 use Rattle.envelopes.specs.Cut.{up_to}
 use Rattle.envelopes.proofs.Limits.{limit_le}
 

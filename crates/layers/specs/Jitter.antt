@@ -1,7 +1,7 @@
 -- A jitter of j slots: what is due by a slot is due j slots before. Assumes nothing.
 use Rattle.std.specs.Prelude.{◌≡◌, ℕ, ◌+◌, ◌≤◌, min}
 use Rattle.std.proofs.Common.{ap, arith}
-use Rattle.envelopes.specs.Bounds.{Bounds, Limit}
+use Rattle.envelopes.specs.Bounds.{Bounds}
 use Rattle.envelopes.proofs.Limits.{limit_le}
 
 module _ (below : Bounds) (j : ℕ) where

@@ -1,5 +1,5 @@
 -- A prefix of p bytes, which are at the proxy already: each limit loses p and stops at 0. Assumes nothing.
-use Rattle.std.specs.Prelude.{◌≡◌, ℕ, ◌+◌, ◌-◌, ◌≤◌}
+use Rattle.std.specs.Prelude.{ℕ, ◌-◌}
 use Rattle.std.proofs.Common.{ap, arith}
 use Rattle.envelopes.specs.Bounds.{Bounds, Limit}
 

@@ -1,5 +1,5 @@
 -- What holds where no check refuses a pattern or a camera. Assumes nothing.
-use Rattle.std.proofs.Common.{◌≡◌, ℕ, ◌≤◌, leb, List, length, None, arith}
+use Rattle.std.proofs.Common.{◌≡◌, ℕ, ◌≤◌, leb, List, length, None}
 use Rattle.std.proofs.lemmas.Bool.{ltb-false, leb-true}
 use Rattle.refusals.proofs.Checks.{passed}
 use Rattle.totals.specs.Totals.{max_size}

@@ -1,5 +1,5 @@
 -- The checks of a pattern and of a live camera. Assumes nothing.
-use Rattle.std.specs.Prelude.{ℕ, Bool, List, [], ◌∷◌, ◌++◌, length, Option, nat_le, nat_lt}
+use Rattle.std.specs.Prelude.{ℕ, Bool, List, [], ◌∷◌, length, Option, nat_le, nat_lt}
 use Rattle.std.specs.List.{prefix_len}
 use Rattle.refusals.specs.Checks.{first_fault}
 use Rattle.totals.specs.Totals.{max_size}

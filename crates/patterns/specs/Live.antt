@@ -1,5 +1,5 @@
 -- What a live camera means: each slot's bytes are there in that slot, and are sent in it. Assumes nothing.
-use Rattle.std.specs.Prelude.{◌≡◌, ℕ, ◌+◌, ◌*◌, ◌<◌, ◌≤◌, min}
+use Rattle.std.specs.Prelude.{◌≡◌, ℕ, ◌+◌, ◌*◌, ◌≤◌, min}
 use Rattle.std.proofs.Common.{ap, ◌∙◌, arith, mul-le-mul, mul-zero}
 use Rattle.totals.specs.Totals.{max_size}
 use Rattle.envelopes.specs.Bounds.{Bounds, Limit, max_bytes}

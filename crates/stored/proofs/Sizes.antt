@@ -1,5 +1,5 @@
 -- Frames by their sizes. Assumes nothing.
-use Rattle.std.proofs.Common.{◌≡◌, ℕ, ◌+◌, ◌<◌, ◌≤◌, List, length, get_or, refl, arith}
+use Rattle.std.proofs.Common.{◌≡◌, ℕ, ◌<◌, ◌≤◌, List, length, get_or, refl, arith}
 use Rattle.totals.specs.Totals.{total, max_size}
 use Rattle.totals.proofs.Steps.{total_more}
 use Rattle.stored.specs.Stored.{Frames}

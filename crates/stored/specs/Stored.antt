@@ -3,7 +3,7 @@ use Rattle.std.specs.Prelude.{◌≡◌, ℕ, zero, suc, ◌+◌, ◌*◌, ◌<�
 use Rattle.std.proofs.Common.{ap, sym, ◌∙◌, arith}
 use Rattle.std.proofs.lemmas.Bool.{cond-false, cond_both, ne_eqb}
 use Rattle.totals.specs.Totals.{max_size}
-use Rattle.envelopes.specs.Bounds.{Bounds, Limit, max_bytes}
+use Rattle.envelopes.specs.Bounds.{Bounds, max_bytes}
 use Rattle.envelopes.specs.Cut.{up_to}
 
 -- n slots, from 1 to 65,535; nothing is due at slot 0, and a size more at each slot after it

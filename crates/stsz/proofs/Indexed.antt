@@ -7,7 +7,7 @@ use Rattle.readers.specs.Field.{big}
 use Rattle.stsz.specs.Stsz.{has_common, box_length, size_place, samples_from, stsz_reading, stsz_checks, stsz_open_fault}
 use Rattle.readers.specs.Reading.{Ending, plain, fault, record_then}
 use Rattle.readers.proofs.Small.{passed}
-use Rattle.stsz.specs.Indexed.{samples, sample, ReadsBox}
+use Rattle.stsz.specs.Indexed.{samples, ReadsBox}
 use Rattle.stsz.proofs.Samples.{samples_next}
 
 module _ (input : List ℕ) (common : Bool) (count k : ℕ) (inside : (j : ℕ) → j < count → size_place common j + 4 ≤ length input) where
