@@ -36,11 +36,11 @@ made_of frames r P e h = subst (λ (x : Result ℕ FilmFault). IfOk x P) (sym e)
 pub kept_is_film : (film : Result ℕ FilmFault) (sizes memory : List ℕ) (room : ℕ) → length memory ≡ room →
     IfOk film (λ frames. (frames < room) × (frames ≡ length sizes) × ((k : ℕ) → k < frames + 1 → get_or memory k 0 ≡ total sizes k)) →
     kept_totals film memory ≡ film_memory film sizes room
-kept_is_film (Err e) sizes memory room same IfOk = ap (λ (n : ℕ). replicate {A = ℕ} n 0) same
-kept_is_film (Ok frames) sizes memory room same IfOk =
-    let long = length-take-le (frames + 1) memory (omega (arith, IfOk.0)) in
-    let front : take (frames + 1) memory ≡ totals_of sizes = totals_all sizes (take (frames + 1) memory) (omega (arith, IfOk.1))
-    (λ k h. let below : k < frames + 1 = omega (arith, IfOk.1) in get_or-take (frames + 1) memory k 0 below ∙ IfOk.2 k below) in
+kept_is_film (Err e) sizes memory room same made = ap (λ (n : ℕ). replicate {A = ℕ} n 0) same
+kept_is_film (Ok frames) sizes memory room same made =
+    let long = length-take-le (frames + 1) memory (omega (arith, made.0)) in
+    let front : take (frames + 1) memory ≡ totals_of sizes = totals_all sizes (take (frames + 1) memory) (omega (arith, made.1))
+    (λ k h. let below : k < frames + 1 = omega (arith, made.1) in get_or-take (frames + 1) memory k 0 below ∙ made.2 k below) in
     ap (λ (m : List ℕ). m ++ replicate (length memory - (frames + 1)) 0) front
     ∙ ap (λ (n : ℕ). totals_of sizes ++ replicate (n - (frames + 1)) 0) same
 
