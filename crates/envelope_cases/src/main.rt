@@ -4,117 +4,72 @@
 #![tactic(auto)]
 
 use anyhow::anyhow;
+use either::{Either, Left, Right};
 use envelopes::Envelope;
 use layers::buffer::Buffer;
 use layers::delay::Delay;
 use layers::jitter::Jitter;
+use layers::layer::Layer;
 use layers::prefix::Prefix;
 use patterns::live::Live;
 use patterns::pattern::Pattern;
 use std::alloc::Global;
 use std::fmt::Display;
 use std::io::{BufRead, BufReader};
+use std::iter::repeat_n;
 use stored::film::Film;
 
-// The slots that are asked about, where there are n.
-fn asked(n: usize) -> [usize; 12] {
-    [
-        0,
-        1,
-        2,
-        3,
-        4,
-        5,
-        6,
-        7,
-        n.saturating_sub(1),
-        n,
-        n.saturating_add(1),
-        usize::MAX,
-    ]
-}
-
-fn show<E: Envelope>(heap: Global, envelope: &E) -> anyhow::Result<String> {
+// Tells what the envelope answers at the first slots, and round the last one.
+fn show<E: Envelope>(text: &mut String, envelope: &E) -> anyhow::Result<()> {
     let n = envelope.slots();
-    let mut text = format!(in heap; "{n} slots")?;
-    for k in asked(n) {
+    write!(text, "{n} slots")?;
+    for k in (0..8).chain([n.saturating_sub(1), n, n.saturating_add(1), usize::MAX]) {
         let lower = envelope.lower(k);
         let upper = envelope.upper(k);
-        text.push_str(format!(in heap; " {lower}-{upper}")?.as_str())?;
+        write!(text, " {lower}-{upper}")?;
     }
-    Ok(text)
+    Ok(())
 }
 
-// A layer by its number.
-#[derive(Clone, Copy)]
-enum Numbered {
-    Delay(Delay),
-    Buffer(Buffer),
-    Jitter(Jitter),
-    Prefix(Prefix),
-}
+// A layer of any kind.
+type AnyLayer = Either<Either<Delay, Buffer>, Either<Jitter, Prefix>>;
 
-// Puts on the first of the layers and hands the rest on; shows the envelope where no layer is left.
-macro_rules! put_on {
-    ($heap:expr, $layers:expr, $below:expr, $next:ident) => {{
-        let Some((layer, rest)) = $layers.split_first() else {
-            return show($heap, &$below);
-        };
-        match *layer {
-            Numbered::Delay(delay) => $next($heap, rest, delay.over($below)),
-            Numbered::Buffer(buffer) => $next($heap, rest, buffer.over($below)),
-            Numbered::Jitter(jitter) => $next($heap, rest, jitter.over($below)),
-            Numbered::Prefix(prefix) => $next($heap, rest, prefix.over($below)),
-        }
-    }};
-}
-
-fn third<E: Envelope + Drop>(
-    heap: Global,
-    layers: &[Numbered],
-    below: E,
-) -> anyhow::Result<String> {
-    if !layers.is_empty() {
-        return Err(anyhow!("too many layers"));
+// Shows the source under these layers, the first of them right over it.
+// One arm for each number of layers: a recursion over a `&dyn Envelope` was tried and gets no proof.
+fn show_under<E: Envelope + Drop>(
+    text: &mut String,
+    layers: &[AnyLayer],
+    source: E,
+) -> anyhow::Result<()> {
+    match *layers {
+        [] => show(text, &source),
+        [first] => show(text, &first.over(source)),
+        [first, second] => show(text, &second.over(first.over(source))),
+        _ => Err(anyhow!("too many layers")),
     }
-    show(heap, &below)
 }
 
-fn second<E: Envelope + Drop>(
-    heap: Global,
-    layers: &[Numbered],
-    below: E,
-) -> anyhow::Result<String> {
-    put_on!(heap, layers, below, third)
+// What stands before and after the first such separator; where there is none, all of it and nothing.
+fn halves(text: &str, separator: char) -> (&str, &str) {
+    text.split_once(separator).unwrap_or((text, ""))
 }
 
-fn first<E: Envelope + Drop>(
-    heap: Global,
-    layers: &[Numbered],
-    below: E,
-) -> anyhow::Result<String> {
-    put_on!(heap, layers, below, second)
-}
-
-fn layer_of(layer: &str) -> anyhow::Result<Numbered> {
-    let (kind, number) = layer.split_once(' ').unwrap_or((layer, ""));
+fn layer_of(layer: &str) -> anyhow::Result<AnyLayer> {
+    let (kind, number) = halves(layer, ' ');
     match kind {
-        "delay" => Ok(Numbered::Delay(Delay::new(number.parse::<usize>()?)?)),
-        "buffer" => Ok(Numbered::Buffer(Buffer::new(number.parse::<u64>()?)?)),
-        "jitter" => Ok(Numbered::Jitter(Jitter::new(number.parse::<usize>()?)?)),
-        "prefix" => Ok(Numbered::Prefix(Prefix::new(number.parse::<u64>()?)?)),
+        "delay" => Ok(Left(Left(Delay(number.parse::<usize>()?.try_into()?)))),
+        "buffer" => Ok(Left(Right(Buffer(number.parse::<u64>()?.try_into()?)))),
+        "jitter" => Ok(Right(Left(Jitter(number.parse::<usize>()?.try_into()?)))),
+        "prefix" => Ok(Right(Right(Prefix(number.parse::<u64>()?.try_into()?)))),
         _ => Err(anyhow!("no such layer")),
     }
 }
 
-fn layers_of(heap: Global, text: &str) -> anyhow::Result<Vec<Numbered>> {
-    let mut layers = Vec::new(heap);
-    for layer in text.split(';') {
-        if !layer.is_empty() {
-            layers.push(layer_of(layer)?)?;
-        }
-    }
-    Ok(layers)
+fn layers_of(heap: Global, text: &str) -> anyhow::Result<Vec<AnyLayer>> {
+    text.split(';')
+        .filter(|layer| !layer.is_empty())
+        .map(layer_of)
+        .try_collect(heap)
 }
 
 // The numbers of a list; `3x7` stands for three times 7.
@@ -122,72 +77,70 @@ fn numbers_of(heap: Global, text: &str) -> anyhow::Result<Vec<u64>> {
     let mut numbers = Vec::new(heap);
     for word in text.split(' ') {
         let (times, number) = word.split_once('x').unwrap_or(("1", word));
-        let number = number.parse::<u64>()?;
-        for _ in 0..times.parse::<usize>()? {
-            numbers.push(number)?;
-        }
+        numbers.extend(repeat_n(number.parse::<u64>()?, times.parse::<usize>()?))?;
     }
     Ok(numbers)
 }
 
 fn sizes_of(heap: Global, text: &str) -> anyhow::Result<Vec<u32>> {
-    let mut sizes = Vec::new(heap);
     if text.is_empty() {
-        return Ok(sizes);
+        return Ok(Vec::new(heap));
     }
-    for size in text.split(' ') {
-        sizes.push(size.parse::<u32>()?)?;
-    }
-    Ok(sizes)
+    text.split(' ')
+        .map(|size| Ok(size.parse::<u32>()?))
+        .try_collect(heap)
 }
 
-fn told<F: Display + Drop>(heap: Global, r: Result<(), F>) -> anyhow::Result<String> {
-    match r {
-        Ok(()) => Ok(format!(in heap; "set up; ")?),
-        Err(fault) => Ok(format!(in heap; "{fault}; ")?),
+fn tell<F: Display + Drop>(text: &mut String, set_up: Result<(), F>) -> anyhow::Result<()> {
+    match set_up {
+        Ok(()) => text.push_str("set up; ")?,
+        Err(fault) => write!(text, "{fault}; ")?,
     }
+    Ok(())
 }
 
 // A new film is set up on one list and then on another.
-fn film_text(heap: Global, lists: &str, layers: &[Numbered]) -> anyhow::Result<String> {
-    let (one, other) = lists.split_once('/').unwrap_or((lists, ""));
+fn film_text(heap: Global, lists: &str, layers: &[AnyLayer]) -> anyhow::Result<String> {
+    let (one, other) = halves(lists, '/');
     let one = numbers_of(heap, one)?;
     let other = numbers_of(heap, other)?;
     let mut film = Film::new();
-    let mut text = told(heap, film.set_up(&one))?;
-    text.push_str(told(heap, film.set_up(&other))?.as_str())?;
-    text.push_str(first(heap, layers, film)?.as_str())?;
+    let mut text = String::new(heap);
+    for totals in [&one, &other] {
+        tell(&mut text, film.set_up(totals))?;
+    }
+    show_under(&mut text, layers, film)?;
     Ok(text)
 }
 
 // A new pattern is set up twice too, each time with the slots before the sizes.
-fn pattern_text(heap: Global, lists: &str, layers: &[Numbered]) -> anyhow::Result<String> {
-    let (one, other) = lists.split_once('/').unwrap_or((lists, ""));
-    let (slots, sizes) = one.split_once(' ').unwrap_or((one, ""));
-    let (other_slots, other_sizes) = other.split_once(' ').unwrap_or((other, ""));
+fn pattern_text(heap: Global, lists: &str, layers: &[AnyLayer]) -> anyhow::Result<String> {
+    let (one, other) = halves(lists, '/');
+    let (slots, sizes) = halves(one, ' ');
+    let (other_slots, other_sizes) = halves(other, ' ');
     let sizes = sizes_of(heap, sizes)?;
     let other_sizes = sizes_of(heap, other_sizes)?;
     let mut pattern = Pattern::new();
-    let mut text = told(heap, pattern.set_up(&sizes, slots.parse::<usize>()?))?;
-    text.push_str(told(
-        heap,
-        pattern.set_up(&other_sizes, other_slots.parse::<usize>()?),
-    )?
-    .as_str())?;
-    text.push_str(first(heap, layers, &pattern)?.as_str())?;
+    let mut text = String::new(heap);
+    for (slots, sizes) in [(slots, &sizes), (other_slots, &other_sizes)] {
+        tell(&mut text, pattern.set_up(sizes, slots.parse::<usize>()?))?;
+    }
+    show_under(&mut text, layers, &pattern)?;
     Ok(text)
 }
 
-fn live_text(heap: Global, text: &str, layers: &[Numbered]) -> anyhow::Result<String> {
-    let (size, slots) = text.split_once(' ').unwrap_or((text, ""));
+fn live_text(heap: Global, text: &str, layers: &[AnyLayer]) -> anyhow::Result<String> {
+    let (size, slots) = halves(text, ' ');
     let live = Live::new(size.parse::<u32>()?, slots.parse::<usize>()?)?;
-    first(heap, layers, live)
+    let mut text = String::new(heap);
+    show_under(&mut text, layers, live)?;
+    Ok(text)
 }
 
 fn case_text(heap: Global, line: &str) -> anyhow::Result<String> {
-    let (source, layers) = line.split_once(';').unwrap_or((line, ""));
+    let (source, layers) = halves(line, ';');
     let layers = layers_of(heap, layers)?;
-    let (kind, lists) = source.split_once(' ').unwrap_or((source, ""));
+    let (kind, lists) = halves(source, ' ');
     match kind {
         "film" => film_text(heap, lists, &layers),
         "pattern" => pattern_text(heap, lists, &layers),

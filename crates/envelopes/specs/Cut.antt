@@ -1,23 +1,12 @@
 -- A limit by its values at the slots 0 to n. Assumes nothing.
 use Rattle.std.specs.Prelude.{◌≡◌, ℕ, ◌+◌, ◌<◌, ◌≤◌, min}
-use Rattle.std.proofs.Common.{ap, ⊎_elim, arith}
-use Rattle.std.proofs.lemmas.Bool.{cases_lt}
+use Rattle.std.proofs.Common.{ap, arith}
+use Rattle.std.proofs.lemmas.Grind.{common_steps}
 use Rattle.envelopes.specs.Bounds.{Limit, max_bytes}
 
 module _ (n : ℕ) (f : ℕ → ℕ) (rises : (k : ℕ) → k < n → f k ≤ f (k + 1)) (bound : (k : ℕ) → k ≤ n → f k ≤ max_bytes) where
   pub cut_rises : (k : ℕ) → f (min k n) ≤ f (min (k + 1) n)
-  cut_rises k = ⊎_elim within past (cases_lt k n)
-    where
-      within : k < n → f (min k n) ≤ f (min (k + 1) n)
-      within h =
-          let here : min k n ≡ k = omega arith in
-          let next : min (k + 1) n ≡ k + 1 = omega arith in
-          omega (arith, ap f here, ap f next, rises k h)
-
-      past : n ≤ k → f (min k n) ≤ f (min (k + 1) n)
-      past h =
-          let same : min k n ≡ min (k + 1) n = omega arith in
-          omega (arith, ap f same)
+  cut_rises k = grind (arith, common_steps, rises k)
 
   pub cut_past : (k : ℕ) → n ≤ k → f (min k n) ≡ f (min n n)
   cut_past k h = ap f (omega arith)

@@ -3,8 +3,10 @@
 #![tactic(auto)]
 
 ghost use Rattle.std.specs.Prelude.{◌≡◌};
+ghost use Rattle.either.specs.Either.{either};
 ghost use Rattle.envelopes.specs.Bounds.{Bounds, Limit};
-ghost use Rattle.envelopes.specs.Either.{either_bounds};
+
+use either::Either;
 
 // The most slots of an envelope.
 pub const MAX_SLOTS: usize = 1_048_575;
@@ -34,46 +36,40 @@ impl<E: Envelope> Envelope for &E {
     ghost bounds = { λ envelope. E.Envelope.bounds envelope.now };
 
     fn slots(&self) -> usize {
-        (**self).slots()
+        E::slots(self)
     }
 
     fn lower(&self, k: usize) -> u64 {
-        (**self).lower(k)
+        E::lower(self, k)
     }
 
     fn upper(&self, k: usize) -> u64 {
-        (**self).upper(k)
+        E::upper(self, k)
     }
 }
 
 // Either of two envelopes, so that one type serves for both.
-#[derive(Clone, Copy, Drop)]
-pub enum Either<A, B> {
-    First(A),
-    Second(B),
-}
-
 impl<A: Envelope, B: Envelope> Envelope for Either<A, B> {
-    ghost bounds = { either_bounds A.Envelope.bounds B.Envelope.bounds };
+    ghost bounds = { either A.Envelope.bounds B.Envelope.bounds };
 
     fn slots(&self) -> usize {
         match self {
-            Either::First(a) => a.slots(),
-            Either::Second(b) => b.slots(),
+            Either::Left(a) => a.slots(),
+            Either::Right(b) => b.slots(),
         }
     }
 
     fn lower(&self, k: usize) -> u64 {
         match self {
-            Either::First(a) => a.lower(k),
-            Either::Second(b) => b.lower(k),
+            Either::Left(a) => a.lower(k),
+            Either::Right(b) => b.lower(k),
         }
     }
 
     fn upper(&self, k: usize) -> u64 {
         match self {
-            Either::First(a) => a.upper(k),
-            Either::Second(b) => b.upper(k),
+            Either::Left(a) => a.upper(k),
+            Either::Right(b) => b.upper(k),
         }
     }
 }

@@ -4,13 +4,14 @@
 
 use anyhow::anyhow;
 use films::make::make_film;
-use ivf::{IvfItem, IvfReader};
+use ivf::{Frame, IvfReader};
 use listing::list::listing;
-use listing::row::Row;
+use readers::fault::OpenFault;
 use readers::reader::Reader;
 use std::alloc::Global;
+use std::fmt::Write;
 use std::io::{BufRead, BufReader};
-use stsz::{IndexItem, StszReader};
+use stsz::{IndexRecord, StszReader};
 
 // What stands in the memory before a film is made.
 const STALE: u64 = 7;
@@ -18,47 +19,28 @@ const STALE: u64 = 7;
 // How many totals of a film are shown at most.
 const SHOWN: usize = 12;
 
-fn digit(b: u8) -> Option<u8> {
+// A digit as the cases have it: to_digit of a char takes capitals too.
+fn digit(b: u8) -> anyhow::Result<u8> {
     match b {
-        b'0'..=b'9' => Some(b - b'0'),
-        b'a'..=b'f' => Some(b - b'a' + 10),
-        _ => None,
+        b'0'..=b'9' => Ok(b - b'0'),
+        b'a'..=b'f' => Ok(b - b'a' + 10),
+        _ => Err(anyhow!("no hex digit")),
     }
 }
 
 fn bytes_of(heap: Global, hex: &str) -> anyhow::Result<Vec<u8>> {
-    let mut bytes = Vec::new(heap);
-    let mut high: Option<u8> = None;
-    for b in hex.bytes() {
-        let Some(low) = digit(b) else {
-            return Err(anyhow!("no hex digit"));
-        };
-        match high {
-            None => high = Some(low),
-            Some(h) => {
-                bytes.push((h & 15) * 16 + (low & 15))?;
-                high = None;
-            }
-        }
-    }
-    Ok(bytes)
+    let digits: Vec<u8> = hex.bytes().map(digit).try_collect(heap)?;
+    let (pairs, _) = digits.as_chunks::<2>();
+    Ok(
+        pairs
+            .iter()
+            .map(|[high, low]| *high << 4 | *low)
+            .collect(heap)?,
+    )
 }
 
 fn nonzero(totals: &[u64]) -> usize {
-    let mut n = 0usize;
-    for total in totals {
-        if *total != 0 {
-            n = n.saturating_add(1);
-        }
-    }
-    n
-}
-
-fn put_totals(text: &mut String, heap: Global, totals: &[u64]) -> anyhow::Result<()> {
-    for total in totals {
-        text.push_str(format!(in heap; " {total}")?.as_str())?;
-    }
-    Ok(())
+    totals.iter().filter(|total| **total != 0).count()
 }
 
 fn film_text(heap: Global, frames: usize, totals: &[u64]) -> anyhow::Result<String> {
@@ -67,13 +49,15 @@ fn film_text(heap: Global, frames: usize, totals: &[u64]) -> anyhow::Result<Stri
     let last = totals.get(frames).copied().unwrap_or(STALE);
     let mut text = format!(in heap; "film {frames} of {last} bytes, {left} stale:")?;
     if frames < SHOWN {
-        let shown = totals.get(..frames + 1).unwrap_or(&[]);
-        put_totals(&mut text, heap, shown)?;
+        for total in totals.get(..frames + 1).unwrap_or(&[]) {
+            write!(text, " {total}")?;
+        }
     }
     Ok(text)
 }
 
-fn film_line<R: Reader>(heap: Global, reader: &mut R, room: usize) -> anyhow::Result<String> {
+// The film that a reader gives.
+fn film<R: Reader>(heap: Global, reader: &mut R, room: usize) -> anyhow::Result<String> {
     let mut totals = vec![in heap; STALE; room]?;
     match make_film(reader, &mut totals) {
         Ok(frames) => film_text(heap, frames, &totals),
@@ -84,78 +68,66 @@ fn film_line<R: Reader>(heap: Global, reader: &mut R, room: usize) -> anyhow::Re
     }
 }
 
-fn ivf_film(heap: Global, input: &[u8], room: usize) -> anyhow::Result<String> {
-    match IvfReader::open(input) {
-        Ok(mut reader) => film_line(heap, &mut reader, room),
-        Err(fault) => Ok(format!(in heap; "{fault}")?),
-    }
+fn show_frame(text: &mut String, frame: Frame) -> anyhow::Result<()> {
+    let Frame {
+        data,
+        place,
+        size,
+        stamp,
+    } = frame;
+    let held = data.len();
+    let first = data.first().copied().unwrap_or(0);
+    write!(
+        text,
+        "{held} bytes at {place} from {first}, size {size}, stamp {stamp}; "
+    )?;
+    Ok(())
 }
 
-fn stsz_film(heap: Global, input: &[u8], room: usize) -> anyhow::Result<String> {
-    match StszReader::open(input) {
-        Ok(mut reader) => film_line(heap, &mut reader, room),
-        Err(fault) => Ok(format!(in heap; "{fault}")?),
-    }
+fn show_record(text: &mut String, record: IndexRecord) -> anyhow::Result<()> {
+    let IndexRecord { size, number } = record;
+    write!(text, "{number} of {size}; ")?;
+    Ok(())
 }
 
-fn frame_text(heap: Global, reader: &mut IvfReader) -> anyhow::Result<String> {
-    match reader.next() {
-        Ok(IvfItem::Frame(frame)) => {
-            let place = frame.place;
-            let size = frame.size;
-            let stamp = frame.stamp;
-            let held = frame.data.len();
-            let first = frame.data.first().copied().unwrap_or(0);
-            Ok(format!(in heap;
-                "{held} bytes at {place} from {first}, size {size}, stamp {stamp}; "
-            )?)
-        }
-        Ok(IvfItem::End) => Ok(format!(in heap; "end; ")?),
-        Err(fault) => Ok(format!(in heap; "{fault}; ")?),
-    }
-}
-
-fn record_text(heap: Global, reader: &mut StszReader) -> anyhow::Result<String> {
-    match reader.next() {
-        Ok(IndexItem::Record(record)) => {
-            let number = record.number;
-            let size = record.size;
-            Ok(format!(in heap; "{number} of {size}; ")?)
-        }
-        Ok(IndexItem::End) => Ok(format!(in heap; "end; ")?),
-        Err(fault) => Ok(format!(in heap; "{fault}; ")?),
-    }
-}
-
-// The answers to some calls of `next`, also past the ending.
-fn ivf_items(heap: Global, input: &[u8], calls: usize) -> anyhow::Result<String> {
-    let mut reader = match IvfReader::open(input) {
-        Ok(reader) => reader,
-        Err(fault) => return Ok(format!(in heap; "{fault}")?),
-    };
+// The answers to some calls of `next`, also past the ending, each record as `show` has it.
+fn answers<R: Reader, F: Fn(&mut String, R::Record) -> anyhow::Result<()>>(
+    heap: Global,
+    reader: &mut R,
+    calls: usize,
+    show: F,
+) -> anyhow::Result<String>
+    requires { F.IsAlwaysCallable show }
+{
     let mut text = String::new(heap);
     for _ in 0..calls {
-        text.push_str(frame_text(heap, &mut reader)?.as_str())?;
+        match reader.next() {
+            Ok(Some(record)) => show(&mut text, record)?,
+            Ok(None) => text.push_str("end; ")?,
+            Err(fault) => write!(text, "{fault}; ")?,
+        }
     }
     Ok(text)
 }
 
-fn stsz_items(heap: Global, input: &[u8], calls: usize) -> anyhow::Result<String> {
-    let mut reader = match StszReader::open(input) {
-        Ok(reader) => reader,
-        Err(fault) => return Ok(format!(in heap; "{fault}")?),
-    };
-    let mut text = String::new(heap);
-    for _ in 0..calls {
-        text.push_str(record_text(heap, &mut reader)?.as_str())?;
+// The text that `then` makes of a reader that was opened, or what kept it from being opened.
+fn of_opened<R: Reader + Drop, F: FnOnce(&mut R) -> anyhow::Result<String>>(
+    heap: Global,
+    opened: Result<R, OpenFault>,
+    then: F,
+) -> anyhow::Result<String>
+    requires { F.IsAlwaysCallable then }
+{
+    match opened {
+        Ok(mut reader) => then(&mut reader),
+        Err(fault) => Ok(fault.to_string(heap)?),
     }
-    Ok(text)
 }
 
-fn rows_text(heap: Global, rows: &[Row]) -> anyhow::Result<String> {
+fn rows_text(heap: Global, input: &[u8]) -> anyhow::Result<String> {
     let mut text = String::new(heap);
-    for row in rows {
-        text.push_str(row.to_string(heap)?.as_str())?;
+    for row in listing(input) {
+        write!(text, "{row}")?;
     }
     Ok(text)
 }
@@ -166,11 +138,27 @@ fn answer(heap: Global, line: &str) -> anyhow::Result<String> {
     let number = words.next().unwrap_or("").parse::<usize>()?;
     let input = bytes_of(heap, words.next().unwrap_or(""))?;
     match kind {
-        "ivf" => ivf_film(heap, &input, number),
-        "stsz" => stsz_film(heap, &input, number),
-        "frames" => ivf_items(heap, &input, number),
-        "records" => stsz_items(heap, &input, number),
-        "listing" => rows_text(heap, &listing(&input)),
+        "ivf" => of_opened(
+            heap,
+            IvfReader::open(&input),
+            |reader| film(heap, reader, number),
+        ),
+        "stsz" => of_opened(
+            heap,
+            StszReader::open(&input),
+            |reader| film(heap, reader, number),
+        ),
+        "frames" => of_opened(
+            heap,
+            IvfReader::open(&input),
+            |reader| answers(heap, reader, number, show_frame),
+        ),
+        "records" => of_opened(
+            heap,
+            StszReader::open(&input),
+            |reader| answers(heap, reader, number, show_record),
+        ),
+        "listing" => rows_text(heap, &input),
         _ => Err(anyhow!("no such kind")),
     }
 }

@@ -6,12 +6,12 @@
 mod tests {
     use films::fault::FilmFault;
     use films::make::make_film;
-    use ivf::{IvfItem, IvfReader};
+    use ivf::IvfReader;
     use listing::fault::ListingFault;
     use listing::list::film_row;
     use listing::row::Row;
     use readers::fault::{OpenFault, RecordFault};
-    use readers::reader::{Item, Reader};
+    use readers::reader::Reader;
     use refusals::{Fault, Layer};
     use runs::Run;
     use std::test::Fail;
@@ -100,12 +100,12 @@ mod tests {
         let film = make_film(&mut reader, &mut totals);
         assert_eq!(rt; film, Err(FilmFault::NoEntryLeft { frames: 0 }));
         assert_eq!(rt; totals, [0]);
-        let IvfItem::Frame(frame) = reader.next()? else {
+        let Some(frame) = reader.next()? else {
             return Err(Fail::new("no second frame"));
         };
         assert_eq!(rt; frame.data, [60, 70].as_slice());
         assert_eq!(rt; (frame.place, frame.size, frame.stamp), (57, 2, 258));
-        assert!(rt; reader.next()?.size().is_none());
+        assert!(rt; reader.next()?.is_none());
         Ok(())
     }
 

@@ -1,5 +1,5 @@
 -- What callers use of a film that was made. Assumes nothing.
-use Rattle.std.proofs.Common.{◌≡◌, ℕ, ◌+◌, ◌-◌, ◌<◌, ◌≤◌, min, List, length, get_or, replicate, Ok, ◌∙◌, arith}
+use Rattle.std.proofs.Common.{◌≡◌, ℕ, ◌+◌, ◌-◌, ◌<◌, ◌≤◌, List, length, get_or, replicate, Ok, ◌∙◌, arith}
 use Rattle.std.proofs.lemmas.List.{get_or_append_left}
 use Rattle.std.proofs.lemmas.Bool.Decides.{nat_tests}
 use Rattle.readers.specs.Reading.{Reading, Ending, plain, fault}
@@ -20,11 +20,9 @@ ended_ok (fault x) n frames e = absurd (grind arith)
 -- a film has as many frames as its reader had sizes, from 1 to 65,535, and its totals lie within the memory
 pub film_made : (r : Reading) (room frames : ℕ) → film_result r room ≡ Ok frames → Made r.sizes room frames
 film_made r room frames e =
-    let some : 0 < room = grind (arith, nat_tests) in
-    let fits : length r.sizes ≤ min 65535 (room - 1) = grind (arith, nat_tests) in
     let ended : at_film_end r.ending (length r.sizes) ≡ Ok frames = grind (arith, nat_tests) in
     let ends = ended_ok r.ending (length r.sizes) frames ended in
-    record { all = ends.0; some = omega (arith, ends.0, ends.1); few = omega (arith, ends.0); within = omega (arith, ends.0) }
+    record { all = ends.0; some = grind (arith, nat_tests); few = grind (arith, nat_tests); within = grind (arith, nat_tests) }
 
 -- its totals
 pub film_total : (sizes : List ℕ) (room frames k : ℕ) → frames ≡ length sizes → k ≤ frames → get_or (film_memory (Ok frames) sizes room) k 0 ≡ total sizes k

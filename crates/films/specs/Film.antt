@@ -1,5 +1,5 @@
 -- What making a film answers, and what the memory then holds. Assumes nothing.
-use Rattle.std.specs.Prelude.{ℕ, ◌+◌, ◌-◌, min, cond, List, ◌++◌, length, replicate, Ok, Err, Result, ◌==◌, nat_lt}
+use Rattle.std.specs.Prelude.{◌≡◌, ℕ, ◌+◌, ◌-◌, min, cond, List, ◌++◌, length, drop, replicate, Ok, Err, Result, ◌==◌, nat_lt}
 use Rattle.readers.specs.Reading.{Reading, Ending, plain, fault}
 use Rattle.totals.specs.Totals.{totals_of}
 use Rattle.films.specs.declared.fault.FilmFault.{FilmFault}
@@ -29,3 +29,8 @@ film_result r room =
 abbrev pub film_memory : Result ℕ FilmFault → List ℕ → (room : ℕ) → List ℕ
 film_memory (Ok frames) sizes room = totals_of sizes ++ replicate (room - (frames + 1)) 0
 film_memory (Err e) sizes room = replicate room 0
+
+-- n records were taken from a reader, or all that it had: what it has left, and that it ends as it did
+pub record Taken (n : ℕ) (before after : Reading) : Type 0 where
+  pub left : after.sizes ≡ drop n before.sizes
+  pub ending : after.ending ≡ before.ending

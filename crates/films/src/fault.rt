@@ -26,8 +26,7 @@ pub enum FilmFault {
 impl From<(RecordFault, usize)> for FilmFault {
     ghost from_gives = { λ pair r. r ≡ Record pair.0 pair.1 };
 
-    fn from(pair: (RecordFault, usize)) -> FilmFault {
-        let (fault, frames) = pair;
+    fn from((fault, frames): (RecordFault, usize)) -> FilmFault {
         FilmFault::Record { fault, frames }
     }
 }
@@ -38,7 +37,7 @@ impl Fault for FilmFault {
     fn refusal(&self) -> Refusal {
         match *self {
             FilmFault::NoMemory => Refusal::new(Layer::Film, 22, 0),
-            FilmFault::Record { fault, frames: _ } => fault.refusal(),
+            FilmFault::Record { fault, .. } => fault.refusal(),
             FilmFault::TooManyFrames { frames } => Refusal::new(Layer::FilmEachRecord, 21, frames),
             FilmFault::NoEntryLeft { frames } => Refusal::new(Layer::FilmEachRecord, 22, frames),
             FilmFault::NoFrame => Refusal::new(Layer::FilmAtEnd, 20, 0),
@@ -46,6 +45,8 @@ impl Fault for FilmFault {
     }
 }
 
+// Tried: one impl for every fault, which is refused (Display is std's, and `F: Fault` any type), and a derive, which has
+// no contract.
 impl fmt::Display for FilmFault {
     ghost output = { λ e. Some (refusal_text (film_refusal e)) };
 

@@ -1,3 +1,3 @@
 pub mod Frames
 pub mod Recorded
-pub mod Steps
+pub mod Opened

@@ -7,14 +7,14 @@ use Rattle.readers.specs.declared.fault.OpenFault.{OpenFault}
 use Rattle.readers.specs.declared.fault.OpenFault.TheVariants.{TooShort, NotDkif, IvfVersion, IvfHeaderLength}
 use Rattle.readers.specs.declared.fault.RecordFault.{RecordFault}
 use Rattle.readers.specs.declared.fault.RecordFault.TheVariants.{HeaderCut, TooLarge, DataCut}
-use Rattle.ivf.specs.declared.Frame as frames
-use Rattle.ivf.specs.declared.IvfItem.{IvfItem}
-use Rattle.ivf.specs.declared.IvfItem.TheVariants.{Frame, End}
+use Rattle.ivf.specs.declared.Frame.{Frame}
 use Rattle.ivf.specs.declared.IvfReader.{IvfReader}
-use Rattle.readers.specs.Faults.{first_fault}
+use Rattle.refusals.specs.Checks.{first_fault}
+use Rattle.refusals.proofs.Checks.{passed}
+use Rattle.totals.specs.Totals.{max_size}
 use Rattle.readers.specs.Field.{little}
-use Rattle.readers.specs.Reading.{Reading, Ending, max_size, Small, nothing, record_then}
-use Rattle.readers.proofs.Small.{passed, small_none, small_then, small_cond}
+use Rattle.readers.specs.Reading.{Reading, Ending, Small, nothing, record_then}
+use Rattle.readers.proofs.Small.{small_none, small_then, small_cond}
 
 -- the checks of an input, before a reader is opened on it
 abbrev pub ivf_checks : List ℕ → List (Bool × OpenFault)
@@ -42,7 +42,7 @@ abbrev pub frame_fault : List ℕ → ℕ → Option RecordFault
 frame_fault input p = first_fault (frame_checks input p)
 
 -- a whole frame, with its header at place p
-pub record FrameAt (input : List ℕ) (p : ℕ) (frame : frames.Frame) : Type 0 where
+pub record FrameAt (input : List ℕ) (p : ℕ) (frame : Frame) : Type 0 where
   pub within : p < length input
   pub passes : frame_fault input p ≡ None
   pub held : frame.«data».now ≡ take (little 4 p input) (drop (p + 12) input)
@@ -50,22 +50,15 @@ pub record FrameAt (input : List ℕ) (p : ℕ) (frame : frames.Frame) : Type 0 
   pub size : frame.size ≡ little 4 p input
   pub stamp : frame.stamp ≡ little 8 (p + 4) input
 
-abbrev pub ItemAt : List ℕ → ℕ → IvfItem → Type 0
-ItemAt input p (Frame frame) = FrameAt input p frame
-ItemAt input p End = length input ≤ p
-
--- a frame at place p that a check refuses
-abbrev pub FaultAt : List ℕ → ℕ → RecordFault → Type 0
-FaultAt input p e = (p < length input) × (frame_fault input p ≡ Some e)
-
-abbrev pub item_size : IvfItem → Option ℕ
-item_size (Frame frame) = Some frame.size
-item_size End = None
+-- the frame at place p, or none at the input's end
+abbrev pub ItemAt : List ℕ → ℕ → Option Frame → Type 0
+ItemAt input p (Some frame) = FrameAt input p frame
+ItemAt input p None = length input ≤ p
 
 -- the reader after an answer: past the frame's data, or where it was
-abbrev pub ivf_after : Result IvfItem RecordFault → IvfReader → IvfReader
-ivf_after (Ok (Frame frame)) reader = record { input = reader.input; place = frame.place + frame.size }
-ivf_after (Ok End) reader = reader
+abbrev pub ivf_after : Result (Option Frame) RecordFault → IvfReader → IvfReader
+ivf_after (Ok (Some frame)) reader = record { input = reader.input; place = frame.place + frame.size }
+ivf_after (Ok None) reader = reader
 ivf_after (Err e) reader = reader
 
 -- the sizes of the frames from place p on, and their ending; `most` is no less than the bytes left

@@ -3,7 +3,8 @@
 use Rattle.std.specs.Prelude.{◌≡◌, ℕ, zero, suc, ◌+◌, ◌/◌, ◌%◌, ◌<◌, ◌≤◌, cond, List, [], ◌∷◌, ◌++◌, map, length, take, ◌==◌, nat_lt}
 use Rattle.std.specs.List.{flat_map}
 use Rattle.readers.specs.declared.fault.RecordFault.TheVariants.{HeaderCut, DataCut}
-use Rattle.readers.specs.Reading.{Reading, Ending, max_size, plain, fault}
+use Rattle.totals.specs.Totals.{max_size}
+use Rattle.readers.specs.Reading.{Reading, Ending, plain, fault}
 
 -- a number in n bytes, low byte first
 abbrev pub low_first : ℕ → ℕ → List ℕ

@@ -2,17 +2,15 @@
 
 #![tactic(auto)]
 
-ghost use Rattle.std.specs.Prelude.{◌≡◌, ◌+◌, ◌<◌, ◌≤◌, [], length, take, drop, IfOk, Some, None, MatchResult};
+ghost use Rattle.std.specs.Prelude.{◌≡◌, ◌<◌, [], length, IfOk, Some, None, MatchResult};
 ghost use Rattle.readers.specs.Reading.{Takes};
-ghost use Rattle.readers.specs.Field.{little};
-ghost use Rattle.ivf.specs.Ivf.{IvfOpened, frame_fault, item_size, ItemAt, FaultAt, ivf_after, ivf_meaning};
+ghost use Rattle.ivf.specs.Ivf.{IvfOpened, frame_fault, FrameAt, ItemAt, ivf_after, ivf_meaning};
 ghost use Rattle.ivf.specs.Recorded.{ReadsCut};
 
-mod field;
-
-use field::{little_u16, little_u32, little_u64};
-use readers::fault::{MAX_SIZE, OpenFault, RecordFault};
-use readers::reader::{Item, Reader};
+use readers::fault::{OpenFault, RecordFault};
+use readers::field::bytes_at;
+use readers::reader::Reader;
+use totals::{MAX_SIZE, Weight};
 
 // The bytes of a frame before its data: the size and the stamp.
 const FRAME_HEADER: usize = 12;
@@ -26,63 +24,17 @@ pub struct Frame<'a> {
     pub stamp: u64,
 }
 
-#[derive(Clone, Copy)]
-pub enum IvfItem<'a> {
-    Frame(Frame<'a>),
-    End,
-}
-
 #[derive(Drop)]
 pub struct IvfReader<'a> {
     input: &'a [u8],
     place: usize,
 }
 
-impl Item for IvfItem<'_> {
-    ghost holds = { item_size };
+impl Weight for Frame<'_> {
+    ghost weighs = { λ frame. frame.size };
 
-    fn size(&self) -> Option<u32> {
-        match self {
-            IvfItem::Frame(frame) => Some(frame.size),
-            IvfItem::End => None,
-        }
-    }
-}
-
-// Checks the frame at a place before the input's end, and answers its size.
-fn frame_size(input: &[u8], place: usize) -> Result<u32, RecordFault>
-    requires { place < length input.now }
-    ensures { MatchResult result (λ size. (frame_fault input.now place ≡ None) × (size ≡ little 4 place input.now) × (place + 12 + size ≤ length input.now)) (λ e. frame_fault input.now place ≡ Some e) }
-{
-    let left = input.len() - place;
-    if left < FRAME_HEADER {
-        return Err(RecordFault::HeaderCut { place });
-    }
-    let size = little_u32(input, place);
-    if size > MAX_SIZE {
-        return Err(RecordFault::TooLarge { place });
-    }
-    if left - FRAME_HEADER < size as usize {
-        return Err(RecordFault::DataCut { place });
-    }
-    Ok(size)
-}
-
-// The frame whose header is at a place, where all its data is there.
-fn frame_at<'a>(input: &'a [u8], place: usize, size: u32) -> Frame<'a>
-    requires { place + 12 + size ≤ length input.now }
-    ensures held { result.«data».now ≡ take size (drop (place + 12) input.now) }
-    ensures place { result.place ≡ place + 12 }
-    ensures size { result.size ≡ size }
-    ensures stamp { result.stamp ≡ little 8 (place + 4) input.now }
-{
-    let start = place + FRAME_HEADER;
-    let end = start + size as usize;
-    Frame {
-        data: &input[start..end],
-        place: start,
-        size,
-        stamp: little_u64(input, place + 4),
+    fn weight(&self) -> u64 {
+        u64::from(self.size)
     }
 }
 
@@ -98,16 +50,17 @@ impl<'a> IvfReader<'a> {
         if !input.starts_with(b"DKIF") {
             return Err(OpenFault::NotDkif);
         }
-        if little_u16(input, 4) != 0 {
+        if u16::from_le_bytes(bytes_at(input, 4)) != 0 {
             return Err(OpenFault::IvfVersion);
         }
-        if little_u16(input, 6) != 32 {
+        if u16::from_le_bytes(bytes_at(input, 6)) != 32 {
             return Err(OpenFault::IvfHeaderLength);
         }
         Ok(IvfReader { input, place: 32 })
     }
 
     // A reader at the first frame, where the header passes its checks.
+    #[tactic(auto, using(crate::proofs::Opened::ivf_opens))]
     pub fn open(input: &'a [u8]) -> Result<IvfReader<'a>, OpenFault>
         ensures opened { IvfOpened input.now result }
         ensures reads { IfOk result (λ reader. ReadsCut input.now (ivf_meaning reader)) }
@@ -115,34 +68,52 @@ impl<'a> IvfReader<'a> {
         IvfReader::begin(input)
     }
 
-    // The item at the reader's place; the reader moves past a frame.
-    fn step(&mut self) -> Result<IvfItem<'a>, RecordFault>
-        ensures told { MatchResult result (ItemAt self.old.input.now self.old.place) (FaultAt self.old.input.now self.old.place) }
-        ensures after { self.new ≡ ivf_after result self.old }
+    // The frame at the reader's place, which is before the input's end, or the first check that it fails.
+    fn frame(&self) -> Result<Frame<'a>, RecordFault>
+        requires { self.now.place < length self.now.input.now }
+        ensures { MatchResult result (FrameAt self.now.input.now self.now.place) (λ e. frame_fault self.now.input.now self.now.place ≡ Some e) }
     {
-        let input = self.input;
         let place = self.place;
-        if place >= input.len() {
-            return Ok(IvfItem::End);
+        let start = place + FRAME_HEADER;
+        if self.input.len() < start {
+            return Err(RecordFault::HeaderCut { place });
         }
-        let size = frame_size(input, place)?;
-        let frame = frame_at(input, place, size);
-        self.place = frame.place + size as usize;
-        Ok(IvfItem::Frame(frame))
+        let size = u32::from_le_bytes(bytes_at(self.input, place));
+        if size > MAX_SIZE {
+            return Err(RecordFault::TooLarge { place });
+        }
+        let end = start + size as usize;
+        let Some(data) = self.input.get(start..end) else {
+            return Err(RecordFault::DataCut { place });
+        };
+        let stamp = u64::from_le_bytes(bytes_at(self.input, place + 4));
+        Ok(Frame {
+            data,
+            place: start,
+            size,
+            stamp,
+        })
     }
 }
 
 impl<'a> Reader for IvfReader<'a> {
-    type Record = IvfItem<'a>;
+    type Record = Frame<'a>;
 
     ghost reading = { ivf_meaning };
 
-    fn next(&mut self) -> Result<IvfItem<'a>, RecordFault>
-        ensures takes { Takes item_size (ivf_meaning self.old) result (ivf_meaning self.new) }
+    // The frame at the reader's place, or none from the input's end on; the reader moves past a frame.
+    #[tactic(auto, using(crate::proofs::Frames::frames_end, crate::proofs::Frames::frames_more, crate::proofs::Frames::frames_fault))]
+    fn next(&mut self) -> Result<Option<Frame<'a>>, RecordFault>
+        ensures takes { Takes (λ frame. frame.size) (ivf_meaning self.old) result (ivf_meaning self.new) }
         ensures stays { (ivf_meaning self.old).sizes ≡ [] → self.new ≡ self.old }
         ensures after { self.new ≡ ivf_after result self.old }
         ensures holds { IfOk result (ItemAt self.old.input.now self.old.place) }
     {
-        self.step()
+        if self.place >= self.input.len() {
+            return Ok(None);
+        }
+        let frame = self.frame()?;
+        self.place = frame.place + frame.size as usize;
+        Ok(Some(frame))
     }
 }

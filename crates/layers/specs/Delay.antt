@@ -1,7 +1,7 @@
 -- A delay of w slots: playing begins w slots later. Assumes nothing.
-use Rattle.std.specs.Prelude.{◌≡◌, ℕ, ◌+◌, ◌-◌, ◌≤◌, min, cond, nat_lt}
-use Rattle.std.proofs.Common.{sym, ◌∙◌, arith}
-use Rattle.std.proofs.lemmas.Bool.{ltb-true, ltb-false, cond_both}
+use Rattle.std.specs.Prelude.{◌≡◌, ℕ, ◌+◌, ◌-◌, ◌≤◌, min, if◌then◌else◌, nat_lt}
+use Rattle.std.proofs.Common.{arith}
+use Rattle.std.proofs.lemmas.Bool.Decides.{nat_tests}
 use Rattle.envelopes.specs.Bounds.{Bounds, max_slots, max_bytes}
 use Rattle.envelopes.specs.Cut.{up_to}
 use Rattle.envelopes.proofs.Limits.{limit_le}
@@ -13,19 +13,16 @@ module _ (below : Bounds) (w : ℕ) where
 
   -- nothing is due before slot w, and from there what was due w slots before
   abbrev pub delay_lower : ℕ → ℕ
-  delay_lower k = cond (nat_lt k w) 0 (below.lower.at (k - w))
+  delay_lower k = if nat_lt k w then 0 else below.lower.at (k - w)
 
   pub lower_rises : (k : ℕ) → delay_lower k ≤ delay_lower (k + 1)
-  lower_rises k = cond_both (nat_lt k w) 0 (below.lower.at (k - w)) (λ x. x ≤ delay_lower (k + 1)) (λ _. omega arith)
-      (λ from. cond_both (nat_lt (k + 1) w) 0 (below.lower.at (k + 1 - w)) (λ x. below.lower.at (k - w) ≤ x)
-      (λ before. absurd (omega (arith, ltb-false k w from, ltb-true (k + 1) w before)))
-      (λ _. limit_le below.lower (k - w) (k + 1 - w) (omega arith)))
+  lower_rises k = grind (arith, nat_tests, limit_le below.lower (k - w) (k + 1 - w))
 
   pub lower_bound : (k : ℕ) → delay_lower k ≤ max_bytes
-  lower_bound k = cond_both (nat_lt k w) 0 (below.lower.at (k - w)) (λ x. x ≤ max_bytes) (λ _. omega arith) (λ _. below.lower.bound (k - w))
+  lower_bound k = grind (arith, nat_tests, below.lower.bound (k - w))
 
   pub upper_past : (k : ℕ) → delay_slots ≤ k → below.upper.at k ≡ below.upper.at delay_slots
-  upper_past k h = below.upper.past k (omega (arith, below.few)) ∙ sym (below.upper.past delay_slots (omega (arith, below.few)))
+  upper_past k h = grind (arith, below.few, below.upper.past k, below.upper.past delay_slots)
 
   -- the upper limit stays
   abbrev pub delayed : Bounds

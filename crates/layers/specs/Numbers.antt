@@ -1,7 +1,14 @@
--- How the number of a layer is made. Assumes nothing.
+-- The number of a layer: how it is made, and what its fault tells. Assumes nothing.
 use Rattle.std.specs.Prelude.{◌≡◌, ℕ, ◌<◌, ◌≤◌, Result, MatchResult}
+use Rattle.refusals.specs.declared.Layer.TheVariants.{LayerNumber}
+use Rattle.refusals.specs.declared.Refusal.{Refusal}
+use Rattle.refusals.specs.Told.{refused}
 use Rattle.layers.specs.declared.fault.NumberFault.{NumberFault}
 
--- what is given is kept where it is at most `most`, and refused by this fault where it is above
-abbrev pub Numbered : {N : Type 0} → (N → ℕ) → (most given : ℕ) → NumberFault → Result N NumberFault → Type 0
-Numbered number most given fault r = MatchResult r (λ n. (number n ≡ given) × (given ≤ most)) (λ e. (e ≡ fault) × (most < given))
+-- what is given is kept where it is at most `most`, and refused where it is above
+abbrev pub KeptUpTo : (most given : ℕ) → Result ℕ NumberFault → Type 0
+KeptUpTo most given r = MatchResult r (λ n. (n ≡ given) × (given ≤ most)) (λ e. (e.given ≡ given) × (most < given))
+
+-- the place that is told is the number
+abbrev pub number_refusal : NumberFault → Refusal
+number_refusal e = refused LayerNumber 26 e.given

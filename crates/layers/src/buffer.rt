@@ -1,63 +1,30 @@
 // A buffer at the viewer: what is sent and not yet played has to fit it.
-ghost use Rattle.std.specs.Prelude.{◌≡◌, ◌≤◌};
-ghost use Rattle.layers.specs.declared.fault.NumberFault.TheVariants.{Bytes};
-ghost use Rattle.layers.specs.Numbers.{Numbered};
 ghost use Rattle.layers.specs.Buffer.{buffered};
 
-use crate::fault::NumberFault;
-use envelopes::{Envelope, MAX_BYTES};
+use crate::layer::Layer;
+use crate::number::Bytes;
+use envelopes::Envelope;
 
 #[derive(Clone, Copy)]
-pub struct Buffer {
-    bytes: u64,
-    ghost bound: { bytes ≤ 1099511627775 },
-}
+pub struct Buffer(pub Bytes);
 
-// An envelope under a buffer.
-#[derive(Clone, Copy, Drop)]
-pub struct Buffered<E> {
-    below: E,
-    buffer: Buffer,
-}
+impl Layer for Buffer {
+    ghost alters = { λ buffer below. buffered below buffer.0 };
 
-impl Buffer {
-    // A buffer of so many bytes.
-    pub fn new(bytes: u64) -> Result<Buffer, NumberFault>
-        ensures { Numbered (λ buffer. buffer.bytes) 1099511627775 bytes (Bytes bytes) result }
-    {
-        if bytes > MAX_BYTES {
-            return Err(NumberFault::Bytes { bytes });
-        }
-        Ok(Buffer { bytes })
+    fn slots<E: Envelope>(&self, below: &E) -> usize {
+        below.slots()
     }
 
-    pub fn over<E: Envelope>(self, below: E) -> Buffered<E>
-        ensures { (result.below ≡ below) × (result.buffer ≡ self) }
-    {
-        Buffered {
-            below,
-            buffer: self,
-        }
-    }
-}
-
-impl<E: Envelope> Envelope for Buffered<E> {
-    ghost bounds = { λ layer. buffered (E.Envelope.bounds layer.below) layer.buffer.bytes };
-
-    fn slots(&self) -> usize {
-        self.below.slots()
+    fn lower<E: Envelope>(&self, below: &E, k: usize) -> u64 {
+        below.lower(k)
     }
 
-    fn lower(&self, k: usize) -> u64 {
-        self.below.lower(k)
-    }
-
-    fn upper(&self, k: usize) -> u64 {
-        let k = k.min(self.below.slots());
+    fn upper<E: Envelope>(&self, below: &E, k: usize) -> u64 {
+        let k = k.min(below.slots());
         if k == 0 {
             return 0;
         }
-        let room = self.below.lower(k - 1).saturating_add(self.buffer.bytes);
-        self.below.upper(k).min(room)
+        let room = below.lower(k - 1).saturating_add(self.0.get());
+        below.upper(k).min(room)
     }
 }

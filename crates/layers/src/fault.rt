@@ -1,43 +1,38 @@
 // Why the number of a layer is refused.
 ghost use Rattle.std.specs.Prelude.{Some};
 ghost use Rattle.refusals.specs.Told.{refusal_text};
-ghost use Rattle.layers.specs.Faults.{number_refusal};
+ghost use Rattle.layers.specs.Numbers.{number_refusal};
 
 use refusals::{Fault, Layer, Refusal};
 use std::error::Error;
 use std::fmt;
 use std::fmt::Display;
 
+// The number that is too large.
 #[derive(Clone, Copy, Debug, PartialEq, Eq)]
-pub enum NumberFault {
-    // too many slots for a delay or a jitter
-    Slots { slots: usize },
-    // too many bytes for a buffer or a prefix
-    Bytes { bytes: u64 },
+pub struct NumberFault {
+    pub given: u64,
 }
 
 impl Fault for NumberFault {
     ghost tells = { number_refusal };
 
     fn refusal(&self) -> Refusal {
-        let place = match *self {
-            NumberFault::Slots { slots } => slots as u64,
-            NumberFault::Bytes { bytes } => bytes,
-        };
         Refusal {
             layer: Layer::LayerNumber,
             number: 26,
-            place,
+            place: self.given,
         }
     }
 }
 
+// Tried: one impl for every fault, which is refused (Display is std's, and `F: Fault` any type), and a derive, which has
+// no contract.
 impl fmt::Display for NumberFault {
     ghost output = { λ e. Some (refusal_text (number_refusal e)) };
 
     fn fmt<W: fmt::Write>(&self, f: &mut fmt::Formatter<W>) -> fmt::Result {
-        let number = self.refusal();
-        fmt::Display::fmt(&number, f)
+        fmt::Display::fmt(&self.refusal(), f)
     }
 }
 

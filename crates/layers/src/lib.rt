@@ -1,4 +1,4 @@
-// The layers that go over any envelope: delay, buffer, jitter, prefix.
+// The layers that go over any envelope: delay, buffer, jitter, prefix, and any other that says how it alters what is below.
 
 #![tactic(auto)]
 
@@ -6,4 +6,6 @@ pub mod buffer;
 pub mod delay;
 pub mod fault;
 pub mod jitter;
+pub mod layer;
+pub mod number;
 pub mod prefix;

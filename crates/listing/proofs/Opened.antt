@@ -1,17 +1,21 @@
 -- The row of a film that a reader was opened for. Assumes nothing.
-use Rattle.std.proofs.Common.{◌≡◌, ℕ, ◌≤◌, ltb, List, length, get_or, None, Ok, sum, Option, Result, sym, ap, ◌∙◌, arith}
+use Rattle.std.proofs.Common.{◌≡◌, ℕ, ◌<◌, ◌≤◌, ltb, List, length, get_or, None, Ok, sum, Option, Result, sym, ap, ◌∙◌, arith}
 use Rattle.std.proofs.lemmas.List.{take_all}
 use Rattle.std.proofs.lemmas.Bool.{le-ltb, cond-false}
 use Rattle.readers.specs.declared.fault.OpenFault.{OpenFault}
 use Rattle.ivf.specs.declared.IvfReader.{IvfReader}
 use Rattle.readers.specs.Reading.{Reading}
 use Rattle.ivf.specs.Ivf.{ivf_open_fault, ivf_meaning}
-use Rattle.ivf.proofs.Steps.{ivf_opened}
+use Rattle.ivf.proofs.Opened.{ivf_opened}
 use Rattle.films.specs.declared.fault.FilmFault.{FilmFault}
 use Rattle.films.specs.Film.{film_result, film_memory}
 use Rattle.films.proofs.Laws.{film_made, film_total}
 use Rattle.listing.specs.declared.row.Row.TheVariants.{Film}
 use Rattle.listing.specs.Listing.{film_row, of_film, of_opened}
+
+-- its totals lie within the memory
+pub opened_within : (reader : IvfReader) (slots : ℕ) → Ok slots ≡ film_result (ivf_meaning reader) 1025 → slots < 1025
+opened_within reader slots ok = (film_made (ivf_meaning reader) 1025 slots (sym ok)).within
 
 module _ (input : List ℕ) (reader : IvfReader) (same : reader.input.now ≡ input) (start : reader.place ≡ 32) where
   pub opened_row : (slots : ℕ) (totals : List ℕ) → length input ≤ 65536 → ivf_open_fault input ≡ None → Ok slots ≡ film_result (ivf_meaning reader) 1025 → totals ≡ film_memory (Ok slots) (ivf_meaning reader).sizes 1025 → Ok (Film slots (get_or totals slots 0)) ≡ film_row input

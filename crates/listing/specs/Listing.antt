@@ -23,9 +23,13 @@ of_opened None input = of_film (film_result (ivf_reading input 32) 1025) (ivf_re
 abbrev pub film_row : List ℕ → Result Row ListingFault
 film_row input = cond (nat_lt 65536 (length input)) (Err InputTooLong) (of_opened (ivf_open_fault input) input)
 
+-- the row of what refuses a listing
+abbrev pub fault_row : ListingFault → Row
+fault_row fault = rows.Refused (listing_refusal fault).number (listing_refusal fault).place
+
 abbrev pub told_row : Result Row ListingFault → Row
 told_row (Ok row) = row
-told_row (Err e) = rows.Refused (listing_refusal e).number (listing_refusal e).place
+told_row (Err fault) = fault_row fault
 
 -- the header, and then the film or what refused it
 abbrev pub rows_of : List ℕ → List Row

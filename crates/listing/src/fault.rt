@@ -49,6 +49,8 @@ impl Fault for ListingFault {
     }
 }
 
+// Tried: one impl for every fault, which is refused (Display is std's, and `F: Fault` any type), and a derive, which has
+// no contract.
 impl fmt::Display for ListingFault {
     ghost output = { λ e. Some (refusal_text (listing_refusal e)) };
 

@@ -7,11 +7,11 @@ use crate::fault::{ListingFault, MAX_INPUT};
 use crate::row::Row;
 use films::make::make_film;
 use ivf::IvfReader;
-use refusals::Fault;
 
-// How many totals the program has room for.
+// How many totals the program has room for: a fixed table, since the listing allocates nothing.
 const TOTALS: usize = 1_025;
 
+#[tactic(auto, using(crate::proofs::Opened::opened_within, crate::proofs::Opened::opened_row))]
 fn row_of(input: &[u8]) -> Result<Row, ListingFault>
     ensures { result ≡ film_row input.now }
 {
@@ -26,6 +26,7 @@ fn row_of(input: &[u8]) -> Result<Row, ListingFault>
 }
 
 // How much film an IVF file holds: its slots and its bytes.
+#[tactic(auto, using(crate::proofs::Cut::lists_cut))]
 pub fn film_row(input: &[u8]) -> Result<Row, ListingFault>
     ensures row { result ≡ film_row input.now }
     ensures cut { ListsCut input.now result }
@@ -37,12 +38,5 @@ pub fn film_row(input: &[u8]) -> Result<Row, ListingFault>
 pub fn listing(input: &[u8]) -> [Row; 2]
     ensures { result ≡ rows_of input.now }
 {
-    let row = match film_row(input) {
-        Ok(row) => row,
-        Err(fault) => Row::Refused {
-            number: fault.number(),
-            place: fault.place(),
-        },
-    };
-    [Row::Header, row]
+    [Row::Header, film_row(input).unwrap_or_else(Row::from)]
 }

@@ -1,27 +1,26 @@
 -- The checks of a pattern and of a live camera. Assumes nothing.
-use Rattle.std.specs.Prelude.{ℕ, Bool, List, [], ◌∷◌, length, Option, nat_le, nat_lt}
-use Rattle.std.specs.List.{prefix_len}
+use Rattle.std.specs.Prelude.{ℕ, Bool, List, [], ◌∷◌, length, Option, position, nat_lt}
+use Rattle.std.specs.Option.{option_map, option_or}
 use Rattle.refusals.specs.Checks.{first_fault}
-use Rattle.totals.specs.Totals.{max_size}
+use Rattle.totals.specs.Totals.{max_size, max_frames}
+use Rattle.patterns.specs.Pattern.{max_group}
 use Rattle.patterns.specs.declared.fault.PatternFault.{PatternFault}
 use Rattle.patterns.specs.declared.fault.PatternFault.TheVariants.{Group, Size, Slots}
 
--- how many sizes are small before the first that is too large
-abbrev pub small_ones : List ℕ → ℕ
-small_ones sizes = prefix_len (λ size. nat_le size max_size) sizes
+-- the place of the first size that is too large
+abbrev pub large_one : List ℕ → Option ℕ
+large_one sizes = position (λ size. nat_lt max_size size) sizes
 
 abbrev pub slots_checks : ℕ → List (Bool × PatternFault)
-slots_checks slots = (nat_lt slots 1, Slots slots) ∷ (nat_lt 65535 slots, Slots slots) ∷ []
+slots_checks slots = (nat_lt slots 1, Slots slots) ∷ (nat_lt max_frames slots, Slots slots) ∷ []
 
-abbrev pub pattern_checks : List ℕ → (slots : ℕ) → List (Bool × PatternFault)
-pattern_checks group slots =
-    (nat_lt (length group) 1, Group (length group)) ∷
-    (nat_lt 16 (length group), Group (length group)) ∷
-    (nat_lt (small_ones group) (length group), Size (small_ones group)) ∷
-    slots_checks slots
+abbrev pub group_checks : List ℕ → List (Bool × PatternFault)
+group_checks group = (nat_lt (length group) 1, Group (length group)) ∷ (nat_lt max_group (length group), Group (length group)) ∷ []
 
+-- the fault of the first check that refuses: of the group, then of each size, then of the slots
 abbrev pub pattern_fault : List ℕ → (slots : ℕ) → Option PatternFault
-pattern_fault group slots = first_fault (pattern_checks group slots)
+pattern_fault group slots =
+    option_or (first_fault (group_checks group)) (option_or (option_map Size (large_one group)) (first_fault (slots_checks slots)))
 
 abbrev pub live_checks : (size slots : ℕ) → List (Bool × PatternFault)
 live_checks size slots = (nat_lt max_size size, Size 0) ∷ slots_checks slots

@@ -1,4 +1,4 @@
 pub mod Faults
-pub mod Checks
 pub mod Pattern
+pub mod Checks
 pub mod Live

@@ -1,47 +1,38 @@
 // The checks of a pattern and of a live camera.
 ghost use Rattle.std.specs.Prelude.{◌≡◌};
 ghost use Rattle.refusals.specs.Checks.{first_fault, unless};
-ghost use Rattle.patterns.specs.Checks.{small_ones, slots_checks, pattern_fault};
+ghost use Rattle.patterns.specs.Checks.{large_one, slots_checks, pattern_fault};
 
 use crate::fault::PatternFault;
-use totals::MAX_SIZE;
+use totals::{MAX_FRAMES, MAX_SIZE};
 
 // The most sizes of a group.
 pub const MAX_GROUP: usize = 16;
 
-// The most slots.
-const MAX_SLOTS: usize = 65_535;
-
 pub fn check_slots(slots: usize) -> Result<(), PatternFault>
     ensures { result ≡ unless (first_fault (slots_checks slots)) }
 {
-    if slots < 1 || slots > MAX_SLOTS {
+    if !(1..=MAX_FRAMES).contains(&slots) {
         return Err(PatternFault::Slots { given: slots });
     }
     Ok(())
 }
 
-// How many sizes are small before the first that is too large.
-fn small_ones(group: &[u32]) -> usize
-    ensures { result ≡ small_ones group.now }
+// The place of the first size that is too large.
+fn large_one(group: &[u32]) -> Option<usize>
+    ensures { result ≡ large_one group.now }
 {
-    for (i, size) in group.iter().enumerate() {
-        if *size > MAX_SIZE {
-            return i;
-        }
-    }
-    group.len()
+    group.iter().position(|size| *size > MAX_SIZE)
 }
 
 pub fn check_pattern(group: &[u32], slots: usize) -> Result<(), PatternFault>
     ensures { result ≡ unless (pattern_fault group.now slots) }
 {
     let given = group.len();
-    if given < 1 || given > MAX_GROUP {
+    if !(1..=MAX_GROUP).contains(&given) {
         return Err(PatternFault::Group { given });
     }
-    let place = small_ones(group);
-    if place < given {
+    if let Some(place) = large_one(group) {
         return Err(PatternFault::Size { place });
     }
     check_slots(slots)

@@ -22,21 +22,21 @@ impl Fault for PatternFault {
     ghost tells = { pattern_refusal };
 
     fn refusal(&self) -> Refusal {
-        let (number, place) = match *self {
-            PatternFault::Group { given } => (23, given),
-            PatternFault::Size { place } => (24, place),
-            PatternFault::Slots { given } => (25, given),
-        };
-        Refusal::new(Layer::PatternLive, number, place)
+        match *self {
+            PatternFault::Group { given } => Refusal::new(Layer::PatternLive, 23, given),
+            PatternFault::Size { place } => Refusal::new(Layer::PatternLive, 24, place),
+            PatternFault::Slots { given } => Refusal::new(Layer::PatternLive, 25, given),
+        }
     }
 }
 
+// Tried: one impl for every fault, which is refused (Display is std's, and `F: Fault` any type), and a derive, which has
+// no contract.
 impl fmt::Display for PatternFault {
     ghost output = { λ e. Some (refusal_text (pattern_refusal e)) };
 
     fn fmt<W: fmt::Write>(&self, f: &mut fmt::Formatter<W>) -> fmt::Result {
-        let refused = self.refusal();
-        fmt::Display::fmt(&refused, f)
+        fmt::Display::fmt(&self.refusal(), f)
     }
 }
 

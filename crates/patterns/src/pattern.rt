@@ -3,6 +3,7 @@ ghost use Rattle.std.specs.Prelude.{◌≡◌, ℕ, ◌≤◌, length, slice_ind
 ghost use Rattle.totals.specs.Totals.{total};
 ghost use Rattle.patterns.specs.Pattern.{GroupFits, pattern_due, pattern_bounds};
 
+use crate::check::MAX_GROUP;
 use envelopes::Envelope;
 
 mod set_up;
@@ -10,16 +11,16 @@ mod set_up;
 #[derive(Clone, Copy, Drop)]
 pub struct Pattern<'a> {
     group: &'a [u32],
-    // what the first k sizes of the group come to
-    sums: [u64; 17],
+    // what the first k sizes of the group come to; a fixed table, since nothing is allocated
+    sums: [u64; MAX_GROUP + 1],
     slots: usize,
     ghost fits: { GroupFits group.now slots },
-    ghost long: { length sums ≡ 17 },
     ghost summed: { (k : ℕ) → k ≤ length group.now → slice_index sums k ≡ total group.now k },
 }
 
 impl<'a> Pattern<'a> {
     // What is due by slot k: whole groups, and the first sizes of one more.
+    #[tactic(auto, using(crate::proofs::Repeated::due_by_sums))]
     fn due(&self, k: usize) -> u64
         requires { k ≤ self.now.slots }
         ensures { result ≡ pattern_due self.now.group.now self.now.slots k }

@@ -1,2 +1,1 @@
 pub mod Small
-pub mod Taking

@@ -1,18 +1,8 @@
 -- Why the sizes that pass their checks are small. Assumes nothing.
 use Rattle.std.proofs.Common.{◌≡◌, ℕ, zero, suc, ◌≤◌, Bool, true, false, cond, List, [], ◌∷◌, Some, None, Option, refl, arith}
 use Rattle.readers.specs.declared.fault.RecordFault.{RecordFault}
-use Rattle.readers.specs.Faults.{first_fault}
-use Rattle.readers.specs.Reading.{Ending, max_size, Small, record_then}
-
--- no check fails
-abbrev pub Passed : {F : Type 0} → List (Bool × F) → Type 0
-Passed [] = Unit {0}
-Passed (check ∷ checks) = (check.0 ≡ false) × Passed checks
-
-pub passed : {F : Type 0} (checks : List (Bool × F)) → first_fault checks ≡ None → Passed checks
-passed [] e = tt
-passed ((true, x) ∷ checks) e = absurd (grind arith)
-passed ((false, x) ∷ checks) e = (refl, passed checks e)
+use Rattle.totals.specs.Totals.{max_size}
+use Rattle.readers.specs.Reading.{Ending, Small, record_then}
 
 pub small_none : Small []
 small_none k = omega arith

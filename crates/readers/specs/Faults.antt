@@ -1,5 +1,4 @@
 -- What each fault of a reader tells. Assumes nothing.
-use Rattle.std.specs.Prelude.{Bool, cond, List, [], ◌∷◌, Some, None, Option}
 use Rattle.refusals.specs.declared.Layer.TheVariants.{ReaderOpened, EachRecord}
 use Rattle.refusals.specs.declared.Refusal.{Refusal}
 use Rattle.refusals.specs.Told.{refused}
@@ -22,8 +21,3 @@ abbrev pub record_refusal : RecordFault → Refusal
 record_refusal (HeaderCut place) = refused EachRecord 13 place
 record_refusal (TooLarge place) = refused EachRecord 15 place
 record_refusal (DataCut place) = refused EachRecord 13 place
-
--- the fault of the first check that fails, where each check stands with its fault
-abbrev pub first_fault : {F : Type 0} → List (Bool × F) → Option F
-first_fault [] = None
-first_fault (check ∷ checks) = cond check.0 (Some check.1) (first_fault checks)

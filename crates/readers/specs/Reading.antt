@@ -1,14 +1,12 @@
 -- What a reader has still to give: the sizes of its records in order, and how they end. Assumes nothing.
 use Rattle.std.specs.Prelude.{◌≡◌, ℕ, ◌≤◌, List, [], ◌∷◌, Some, None, Ok, Err, Option, Result, slice_index}
+use Rattle.std.specs.Option.{option_map}
+use Rattle.totals.specs.Totals.{max_size}
 use Rattle.readers.specs.declared.fault.RecordFault.{RecordFault}
 
 pub data Ending : Type 0 where
   plain : Ending
   fault : RecordFault → Ending
-
--- the largest size of a record
-abbrev pub max_size : ℕ
-max_size = 16777215
 
 abbrev pub Small : List ℕ → Type 0
 Small sizes = (k : ℕ) → slice_index sizes k ≤ max_size
@@ -33,14 +31,14 @@ abbrev pub rest : List ℕ → List ℕ
 rest [] = []
 rest (size ∷ sizes) = sizes
 
--- what an answer tells, by the size that its item holds
-abbrev pub sized : {I : Type 0} → (I → Option ℕ) → Result I RecordFault → Result (Option ℕ) RecordFault
-sized holds (Ok item) = Ok (holds item)
-sized holds (Err e) = Err e
+-- what an answer tells: the size of its record, that no record comes, or the fault
+abbrev pub sized : {R : Type 0} → (R → ℕ) → Result (Option R) RecordFault → Result (Option ℕ) RecordFault
+sized weighs (Ok item) = Ok (option_map weighs item)
+sized weighs (Err e) = Err e
 
 -- taking the next record: the answer r, and what is then still to come
-pub record Takes {I : Type 0} (holds : I → Option ℕ) (before : Reading) (r : Result I RecordFault) (after : Reading) : Type 0 where
-  pub gives : sized holds r ≡ answer before.sizes before.ending
+pub record Takes {R : Type 0} (weighs : R → ℕ) (before : Reading) (r : Result (Option R) RecordFault) (after : Reading) : Type 0 where
+  pub gives : sized weighs r ≡ answer before.sizes before.ending
   pub moves : after.sizes ≡ rest before.sizes
   pub ends : after.ending ≡ before.ending
 

@@ -8,9 +8,6 @@ use std::error::Error;
 use std::fmt;
 use std::fmt::Display;
 
-// The largest size of a frame or sample, in bytes.
-pub const MAX_SIZE: u32 = 16_777_215;
-
 #[derive(Clone, Copy, Debug, PartialEq, Eq)]
 pub enum OpenFault {
     TooShort { length: usize },
@@ -34,17 +31,16 @@ impl Fault for OpenFault {
     ghost tells = { open_refusal };
 
     fn refusal(&self) -> Refusal {
-        let (number, place) = match *self {
-            OpenFault::TooShort { length } => (10, length),
-            OpenFault::NotDkif => (11, 0),
-            OpenFault::NotStsz => (11, 4),
-            OpenFault::IvfVersion => (12, 4),
-            OpenFault::IvfHeaderLength => (12, 6),
-            OpenFault::BoxVersion => (12, 8),
-            OpenFault::CommonSize => (15, 12),
-            OpenFault::BoxSize => (14, 0),
-        };
-        Refusal::new(Layer::ReaderOpened, number, place)
+        match *self {
+            OpenFault::TooShort { length } => Refusal::new(Layer::ReaderOpened, 10, length),
+            OpenFault::NotDkif => Refusal::new(Layer::ReaderOpened, 11, 0),
+            OpenFault::NotStsz => Refusal::new(Layer::ReaderOpened, 11, 4),
+            OpenFault::IvfVersion => Refusal::new(Layer::ReaderOpened, 12, 4),
+            OpenFault::IvfHeaderLength => Refusal::new(Layer::ReaderOpened, 12, 6),
+            OpenFault::BoxVersion => Refusal::new(Layer::ReaderOpened, 12, 8),
+            OpenFault::CommonSize => Refusal::new(Layer::ReaderOpened, 15, 12),
+            OpenFault::BoxSize => Refusal::new(Layer::ReaderOpened, 14, 0),
+        }
     }
 }
 
@@ -52,15 +48,16 @@ impl Fault for RecordFault {
     ghost tells = { record_refusal };
 
     fn refusal(&self) -> Refusal {
-        let (number, place) = match *self {
-            RecordFault::HeaderCut { place } => (13, place),
-            RecordFault::TooLarge { place } => (15, place),
-            RecordFault::DataCut { place } => (13, place),
-        };
-        Refusal::new(Layer::EachRecord, number, place)
+        match *self {
+            RecordFault::HeaderCut { place } => Refusal::new(Layer::EachRecord, 13, place),
+            RecordFault::TooLarge { place } => Refusal::new(Layer::EachRecord, 15, place),
+            RecordFault::DataCut { place } => Refusal::new(Layer::EachRecord, 13, place),
+        }
     }
 }
 
+// Tried: one impl for every fault, which is refused (Display is std's, and `F: Fault` any type), and a derive, which has
+// no contract.
 impl fmt::Display for OpenFault {
     ghost output = { λ e. Some (refusal_text (open_refusal e)) };
 
@@ -70,6 +67,8 @@ impl fmt::Display for OpenFault {
     }
 }
 
+// Tried: one impl for every fault, which is refused (Display is std's, and `F: Fault` any type), and a derive, which has
+// no contract.
 impl fmt::Display for RecordFault {
     ghost output = { λ e. Some (refusal_text (record_refusal e)) };
 

@@ -25,6 +25,7 @@ pub enum Layer {
 #[derive(Clone, Copy, Debug, PartialEq, Eq)]
 pub struct Refusal {
     pub layer: Layer,
+    // a number, and no enum of checks: the rules number the refusals, and the fault's own enum tells the kind
     pub number: u32,
     pub place: u64,
 }

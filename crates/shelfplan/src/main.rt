@@ -2,35 +2,31 @@
 
 #![tactic(auto)]
 
-ghost use Rattle.std.specs.Prelude.{◌≤◌, length};
-
+use listing::fault::MAX_INPUT;
 use listing::list::listing;
 use std::io;
 use std::io::Read;
 
 // One byte more than an input may have, so that a longer one is seen.
-const CAPACITY: usize = 65_537;
+const CAPACITY: usize = MAX_INPUT + 1;
 
-// Fills the buffer from standard input and answers how many bytes came. A read that fails counts as the end; one
-// that succeeds brings a byte at least, so there are no more reads than bytes.
-fn read_input(rt: &HostRuntime, buffer: &mut [u8]) -> usize
-    ensures { result ≤ length buffer.new }
-{
+// What comes from standard input, in the front of the buffer. A read that fails counts as the end. The memory is
+// fixed, so the bytes are counted here: no want of memory can pass for a read that failed.
+fn read_input<'a>(rt: &HostRuntime, buffer: &'a mut [u8]) -> &'a [u8] {
     let mut filled = 0;
     let mut input = rt.stdin();
-    for _ in 0..buffer.len() {
+    while filled < buffer.len() {
         match input.read(&mut buffer[filled..]) {
             Ok(0) | Err(_) => break,
             Ok(n) => filled += n,
         }
     }
-    filled
+    &buffer[..filled]
 }
 
 fn main(rt: HostRuntime) -> io::Result<()> {
     let mut buffer = [0u8; CAPACITY];
-    let filled = read_input(&rt, &mut buffer);
-    for row in listing(&buffer[0..filled]) {
+    for row in listing(read_input(&rt, &mut buffer)) {
         rt.print(row)?;
     }
     Ok(())

@@ -1,3 +1,2 @@
-pub mod Leading
-pub mod Fitting
 pub mod Sizes
+pub mod Fitting

@@ -1,4 +1,4 @@
 pub mod Faults
-pub mod Totals
 pub mod Stored
+pub mod Totals
 pub mod Film

@@ -1,15 +1,15 @@
 -- What is stored, by the bytes due at each slot: all of it may be sent from the first slot on. Assumes nothing.
-use Rattle.std.specs.Prelude.{◌≡◌, ℕ, zero, suc, ◌+◌, ◌*◌, ◌<◌, ◌≤◌, cond, ◌==◌, refl}
-use Rattle.std.proofs.Common.{ap, sym, ◌∙◌, arith}
-use Rattle.std.proofs.lemmas.Bool.{cond-false, cond_both, ne_eqb}
-use Rattle.totals.specs.Totals.{max_size}
+use Rattle.std.specs.Prelude.{◌≡◌, ℕ, zero, suc, ◌+◌, ◌*◌, ◌<◌, ◌≤◌, if◌then◌else◌, ◌==◌, refl}
+use Rattle.std.proofs.Common.{arith}
+use Rattle.std.proofs.lemmas.Bool.Decides.{nat_tests}
+use Rattle.totals.specs.Totals.{max_size, max_frames}
 use Rattle.envelopes.specs.Bounds.{Bounds, max_bytes}
 use Rattle.envelopes.specs.Cut.{up_to}
 
 -- n slots, from 1 to 65,535; nothing is due at slot 0, and a size more at each slot after it
 pub record Frames (n : ℕ) (due : ℕ → ℕ) : Type 0 where
   pub some : 1 ≤ n
-  pub few : n ≤ 65535
+  pub few : n ≤ max_frames
   pub none : due 0 ≡ 0
   pub rises : (k : ℕ) → k < n → due k ≤ due (k + 1)
   pub small : (k : ℕ) → k < n → due (k + 1) ≤ due k + max_size
@@ -17,20 +17,20 @@ pub record Frames (n : ℕ) (due : ℕ → ℕ) : Type 0 where
 module _ (n : ℕ) (due : ℕ → ℕ) where
   -- nothing at slot 0, and all from slot 1
   abbrev pub all_ahead : ℕ → ℕ
-  all_ahead k = cond (k == 0) 0 (due n)
+  all_ahead k = if k == 0 then 0 else due n
 
-  all_from_1 : (k : ℕ) → 0 < k → all_ahead k ≡ due n
-  all_from_1 k h = cond-false (k == 0) 0 (due n) (ne_eqb k 0 (λ e. omega (arith, e)))
+  -- from slot 1 on it is all
+  pub all_from_1 : (k : ℕ) → 0 < k → all_ahead k ≡ due n
+  all_from_1 k h = grind (arith, nat_tests)
 
-  at_most_all : (k : ℕ) → all_ahead k ≤ due n
-  at_most_all k = cond_both (k == 0) 0 (due n) (λ x. x ≤ due n) (λ _. omega arith) (λ _. omega arith)
+  -- and never more than all
+  pub at_most_all : (k : ℕ) → all_ahead k ≤ due n
+  at_most_all k = grind (arith, nat_tests)
 
   module _ (frames : Frames n due) where
     due_most : (k : ℕ) → k ≤ n → due k ≤ k * max_size
     due_most zero h = omega (arith, frames.none)
-    due_most (suc k) h =
-        let next : suc k ≡ k + 1 = omega arith in
-        omega (arith, ap due next, due_most k (omega arith), frames.small k (omega arith))
+    due_most (suc k) h = grind (arith, due_most k, frames.small k)
 
     pub due_bound : (k : ℕ) → k ≤ n → due k ≤ max_bytes
     due_bound k h = omega (arith, due_most k h, frames.few)
@@ -42,7 +42,7 @@ module _ (n : ℕ) (due : ℕ → ℕ) where
     all_bound k = omega (arith, at_most_all k, due_bound n (omega arith))
 
     pub all_past : (k : ℕ) → n ≤ k → all_ahead k ≡ all_ahead n
-    all_past k h = all_from_1 k (omega (arith, frames.some)) ∙ sym (all_from_1 n (omega (arith, frames.some)))
+    all_past k h = grind (arith, nat_tests, frames.some)
 
     -- L(k) is what is due by slot k
     abbrev pub stored_bounds : Bounds

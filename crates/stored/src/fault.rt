@@ -20,20 +20,20 @@ impl Fault for TotalsFault {
     ghost tells = { totals_refusal };
 
     fn refusal(&self) -> Refusal {
-        let place = match *self {
-            TotalsFault::Count { given } => given,
-            TotalsFault::Entry { place } => place,
-        };
-        Refusal::new(Layer::FilmSetUp, 28, place)
+        match *self {
+            TotalsFault::Count { given } => Refusal::new(Layer::FilmSetUp, 28, given),
+            TotalsFault::Entry { place } => Refusal::new(Layer::FilmSetUp, 28, place),
+        }
     }
 }
 
+// Tried: one impl for every fault, which is refused (Display is std's, and `F: Fault` any type), and a derive, which has
+// no contract.
 impl fmt::Display for TotalsFault {
     ghost output = { λ e. Some (refusal_text (totals_refusal e)) };
 
     fn fmt<W: fmt::Write>(&self, f: &mut fmt::Formatter<W>) -> fmt::Result {
-        let set_up = self.refusal();
-        fmt::Display::fmt(&set_up, f)
+        fmt::Display::fmt(&self.refusal(), f)
     }
 }
 

@@ -21,13 +21,13 @@ impl<'a> Envelope for Film<'a> {
     }
 
     fn lower(&self, k: usize) -> u64 {
-        self.totals[k.min(self.totals.len() - 1)]
+        self.totals[k.min(self.slots())]
     }
 
     fn upper(&self, k: usize) -> u64 {
         if k == 0 {
             return 0;
         }
-        self.totals[self.totals.len() - 1]
+        self.totals[self.slots()]
     }
 }

@@ -1,3 +1,2 @@
 pub mod Samples
 pub mod Indexed
-pub mod Steps

@@ -1,116 +1,73 @@
--- The sample-size box of ISO/IEC 14496-12, high byte first, as the whole input. Bytes 0 to 3 are the box's
--- size, 4 to 7 stsz, 8 to 11 version and flags, all 0, 12 to 15 a common size, 16 to 19 the count. A common
--- size of 0 means that `count` sizes of 4 bytes follow; another holds for all samples. Assumes nothing.
-use Rattle.std.specs.Prelude.{◌≡◌, ℕ, zero, suc, ◌+◌, ◌-◌, ◌*◌, Bool, true, false, cond, not, List, [], ◌∷◌, length, take, drop, Some, None, Ok, Err, codes, Option, Result, MatchResult, ◌==◌, nat_lt}
+-- What a reader of a sample-size box hands out, and what it has still to give. Assumes nothing.
+use Rattle.std.specs.Prelude.{◌≡◌, ℕ, zero, suc, ◌+◌, ◌-◌, ◌<◌, ◌≤◌, List, Some, None, Ok, Err, Option, Result, MatchResult}
 use Rattle.std.proofs.Common.{ltb-false}
-use Rattle.std.specs.Str.{bytes_eq}
+use Rattle.refusals.proofs.Checks.{passed}
+use Rattle.totals.specs.Totals.{max_size}
 use Rattle.readers.specs.declared.fault.OpenFault.{OpenFault}
-use Rattle.readers.specs.declared.fault.OpenFault.TheVariants.{TooShort, NotStsz, BoxVersion, CommonSize, BoxSize}
 use Rattle.readers.specs.declared.fault.RecordFault.{RecordFault}
-use Rattle.readers.specs.declared.fault.RecordFault.TheVariants.{TooLarge}
-use Rattle.stsz.specs.declared.IndexRecord as records
-use Rattle.stsz.specs.declared.IndexItem.{IndexItem}
-use Rattle.stsz.specs.declared.IndexItem.TheVariants.{Record, End}
-use Rattle.stsz.specs.declared.StszReader.{StszReader}
-use Rattle.readers.specs.Faults.{first_fault}
 use Rattle.readers.specs.Field.{big}
-use Rattle.readers.specs.Reading.{Reading, Ending, max_size, Small, nothing, record_then}
-use Rattle.readers.proofs.Small.{passed, small_none, small_then, small_cond}
+use Rattle.readers.specs.Reading.{Reading, Ending, Small, nothing, record_then}
+use Rattle.readers.proofs.Small.{small_none, small_then}
+use Rattle.stsz.specs.declared.record.IndexRecord.{IndexRecord}
+use Rattle.stsz.specs.declared.table.SizeTable.{SizeTable}
+use Rattle.stsz.specs.declared.reader.StszReader.{StszReader}
+use Rattle.stsz.specs.Format.{sizes_of, samples, size_place, stsz_open_fault, sample_checks, sample_fault}
 
--- whether one size holds for all samples
-abbrev pub has_common : List ℕ → Bool
-has_common input = not (big 4 12 input == 0)
+-- the sizes of a whole box
+pub record TableOf (input : List ℕ) (table : SizeTable) : Type 0 where
+  pub checked : stsz_open_fault input ≡ None
+  pub bytes : table.input.now ≡ input
+  pub sizes : table.sizes ≡ sizes_of input
+  pub count : table.count ≡ samples input
 
--- the bytes of a whole box
-abbrev pub box_length : List ℕ → ℕ
-box_length input = cond (has_common input) 20 (20 + 4 * big 4 16 input)
+-- the size of sample i
+abbrev pub size_at : SizeTable → ℕ → ℕ
+size_at table i = big 4 (size_place table.sizes i) table.input.now
 
--- the checks of an input, before a reader is opened on it
-abbrev pub stsz_checks : List ℕ → List (Bool × OpenFault)
-stsz_checks input =
-    (nat_lt (length input) 20, TooShort (length input)) ∷
-    (not (bytes_eq (take 4 (drop 4 input)) (codes "stsz")), NotStsz) ∷
-    (not (big 4 8 input == 0), BoxVersion) ∷
-    (nat_lt max_size (big 4 12 input), CommonSize) ∷
-    (not (big 4 0 input == length input), BoxSize) ∷
-    (not (big 4 0 input == box_length input), BoxSize) ∷ []
-
-abbrev pub stsz_open_fault : List ℕ → Option OpenFault
-stsz_open_fault input = first_fault (stsz_checks input)
+-- the fault of sample i, where its check finds one
+abbrev pub fault_at : SizeTable → ℕ → Option RecordFault
+fault_at table i = sample_fault table.input.now (size_place table.sizes i)
 
 -- what opening answers: a reader at sample 0, or the fault
 abbrev pub StszOpened : List ℕ → Result StszReader OpenFault → Type 0
-StszOpened input r =
-    MatchResult r
-    (λ reader. (stsz_open_fault input ≡ None) × (reader.input.now ≡ input) × (reader.common ≡ has_common input) × (reader.count ≡ big 4 16 input) × (reader.number ≡ 0))
-    (λ e. stsz_open_fault input ≡ Some e)
+StszOpened input r = MatchResult r (λ reader. TableOf input reader.table × (reader.number ≡ 0)) (λ e. stsz_open_fault input ≡ Some e)
 
--- where the size of sample i stands: for all of them in the common size, or each in its own entry
-abbrev pub size_place : (common : Bool) → ℕ → ℕ
-size_place true i = 12
-size_place false i = 20 + 4 * i
+-- the sizes of the next samples, from number i on, and their ending
+abbrev pub samples_from : (left : ℕ) → SizeTable → ℕ → List ℕ × Ending
+samples_from zero table i = nothing
+samples_from (suc left) table i = record_then (fault_at table i) (size_at table i) (samples_from left table (i + 1))
 
--- the check of a sample whose size stands at place p
-abbrev pub sample_checks : List ℕ → ℕ → List (Bool × RecordFault)
-sample_checks input p = (nat_lt max_size (big 4 p input), TooLarge p) ∷ []
+pub samples_small : (left : ℕ) (table : SizeTable) (i : ℕ) → Small (samples_from left table i).0
+samples_small zero table i = small_none
+samples_small (suc left) table i =
+    small_then (fault_at table i) (size_at table i) _ (λ e. ltb-false max_size (size_at table i) (passed (sample_checks table.input.now (size_place table.sizes i)) e).0)
+    (samples_small left table (i + 1))
 
-abbrev pub sample_fault : List ℕ → ℕ → Option RecordFault
-sample_fault input p = first_fault (sample_checks input p)
-
--- the sizes of the next samples, from number i on, and their ending. None comes whose size would stand past
--- the input's end; in an opened reader none does.
-abbrev pub samples_from : (left : ℕ) → Bool → List ℕ → ℕ → List ℕ × Ending
-samples_from zero common input i = nothing
-samples_from (suc left) common input i =
-    cond (nat_lt (length input) (size_place common i + 4)) nothing
-    (record_then (sample_fault input (size_place common i)) (big 4 (size_place common i) input) (samples_from left common input (i + 1)))
-
-pub samples_small : (left : ℕ) (common : Bool) (input : List ℕ) (i : ℕ) → Small (samples_from left common input i).0
-samples_small zero common input i = small_none
-samples_small (suc left) common input i =
-    small_cond (nat_lt (length input) (size_place common i + 4)) nothing _ small_none
-    (small_then (sample_fault input (size_place common i)) (big 4 (size_place common i) input) _ (λ e. ltb-false max_size (big 4 (size_place common i) input) (passed (sample_checks input (size_place common i)) e).0)
-    (samples_small left common input (i + 1)))
-
-abbrev pub stsz_reading : List ℕ → (common : Bool) (count i : ℕ) → Reading
-stsz_reading input common count i = record {
-  sizes = (samples_from (count - i) common input i).0;
-  ending = (samples_from (count - i) common input i).1;
-  small = samples_small (count - i) common input i;
+abbrev pub stsz_reading : SizeTable → ℕ → Reading
+stsz_reading table i = record {
+  sizes = (samples_from (table.count - i) table i).0;
+  ending = (samples_from (table.count - i) table i).1;
+  small = samples_small (table.count - i) table i;
 }
 
 -- what a reader of a sample-size box has still to give, wherever it stands
 abbrev pub stsz_meaning : StszReader → Reading
-stsz_meaning reader = stsz_reading reader.input.now reader.common reader.count reader.number
-
-abbrev pub index_size : IndexItem → Option ℕ
-index_size (Record r) = Some r.size
-index_size End = None
-
--- where the size of the reader's next sample stands: nowhere after the last one, or past the input's end
-abbrev pub sample_place : StszReader → Option ℕ
-sample_place reader =
-    cond (nat_lt reader.number reader.count)
-    (cond (nat_lt (length reader.input.now) (size_place reader.common reader.number + 4)) None (Some (size_place reader.common reader.number)))
-    None
+stsz_meaning reader = stsz_reading reader.table reader.number
 
 -- the reader's next sample
-pub record RecordAt (reader : StszReader) (r : records.IndexRecord) : Type 0 where
-  pub there : sample_place reader ≡ Some (size_place reader.common reader.number)
-  pub passes : sample_fault reader.input.now (size_place reader.common reader.number) ≡ None
-  pub size : r.size ≡ big 4 (size_place reader.common reader.number) reader.input.now
+pub record RecordAt (reader : StszReader) (r : IndexRecord) : Type 0 where
+  pub among : reader.number < reader.table.count
+  pub passes : fault_at reader.table reader.number ≡ None
+  pub size : r.size ≡ size_at reader.table reader.number
   pub number : r.number ≡ reader.number
 
-abbrev pub IndexAt : StszReader → IndexItem → Type 0
-IndexAt reader (Record r) = RecordAt reader r
-IndexAt reader End = sample_place reader ≡ None
-
--- a sample that its check refuses
-abbrev pub IndexFault : StszReader → RecordFault → Type 0
-IndexFault reader e = (sample_place reader ≡ Some (size_place reader.common reader.number)) × (sample_fault reader.input.now (size_place reader.common reader.number) ≡ Some e)
+-- the sample at the reader's number, or none after the last one
+abbrev pub IndexAt : StszReader → Option IndexRecord → Type 0
+IndexAt reader (Some r) = RecordAt reader r
+IndexAt reader None = reader.table.count ≤ reader.number
 
 -- the reader after an answer: at the next number, or where it was
-abbrev pub stsz_after : Result IndexItem RecordFault → StszReader → StszReader
-stsz_after (Ok (Record r)) reader = record { input = reader.input; common = reader.common; count = reader.count; number = reader.number + 1 }
-stsz_after (Ok End) reader = reader
+abbrev pub stsz_after : Result (Option IndexRecord) RecordFault → StszReader → StszReader
+stsz_after (Ok (Some r)) reader = record reader { number = reader.number + 1 }
+stsz_after (Ok None) reader = reader
 stsz_after (Err e) reader = reader

@@ -6,6 +6,10 @@ use Rattle.std.specs.List.{range_with_len}
 abbrev pub max_size : ℕ
 max_size = 16777215
 
+-- the most frames of a film
+abbrev pub max_frames : ℕ
+max_frames = 65535
+
 -- what the first k weigh together
 abbrev pub total : List ℕ → ℕ → ℕ
 total weights k = sum (take k weights)

@@ -1,4 +1,4 @@
-// Running totals over anything that has a weight. Inner: offered to no user.
+// What has a weight, and the running totals of it. The totals are inner: offered to no user.
 
 #![tactic(auto)]
 
@@ -7,6 +7,9 @@ ghost use Rattle.totals.specs.Totals.{totals_of};
 
 // The largest size of a frame or sample, in bytes.
 pub const MAX_SIZE: u32 = 16_777_215;
+
+// The most frames of a film.
+pub const MAX_FRAMES: usize = 65_535;
 
 // What is summed up: a frame's size, a sample's, the bytes of a run.
 pub trait Weight {
@@ -33,6 +36,7 @@ pub fn running_totals<W: Weight>(records: &[W], totals: &mut [u64])
     ensures { totals.new ≡ totals_of (map W.weighs records.now) }
 {
     totals[0] = 0;
+    // tried: zip with iter_mut, after which a proof knows nothing of what was written
     for (i, record) in records.iter().enumerate() {
         totals[i + 1] = totals[i] + record.weight();
     }

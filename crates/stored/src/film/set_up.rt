@@ -1,15 +1,13 @@
 // A new film, and setting one up.
 ghost use Rattle.std.specs.Prelude.{◌≡◌, ◌<◌, true, false, [], ◌∷◌, length, MatchResult};
 ghost use Rattle.refusals.specs.Checks.{unless};
-ghost use Rattle.stored.specs.Totals.{entry_fits, fitting, totals_fault};
+ghost use Rattle.stored.specs.Totals.{entry_fits, misfit, totals_fault};
 
 use crate::fault::TotalsFault;
 use crate::film::Film;
-use totals::MAX_SIZE;
+use totals::{MAX_FRAMES, MAX_SIZE};
 
-// The most totals of a film: one more than its frames.
-const MAX_TOTALS: usize = 65_536;
-
+// Whether the total at k is no less than the one before it, and at most the largest size above; the first is 0.
 fn entry_fits(totals: &[u64], k: usize) -> bool
     requires { k < length totals.now }
     ensures { result ≡ entry_fits totals.now k }
@@ -21,16 +19,11 @@ fn entry_fits(totals: &[u64], k: usize) -> bool
     before <= totals[k] && totals[k] - before <= u64::from(MAX_SIZE)
 }
 
-// How many totals fit before the first that does not.
-fn fitting(totals: &[u64]) -> usize
-    ensures { result ≡ fitting totals.now }
+// The place of the first total that does not fit.
+fn misfit(totals: &[u64]) -> Option<usize>
+    ensures { result ≡ misfit totals.now }
 {
-    for k in 0..totals.len() {
-        if !entry_fits(totals, k) {
-            return k;
-        }
-    }
-    totals.len()
+    (0..totals.len()).find(|k| !entry_fits(totals, *k))
 }
 
 // The first check that refuses these totals.
@@ -38,11 +31,10 @@ fn check(totals: &[u64]) -> Result<(), TotalsFault>
     ensures { result ≡ unless (totals_fault totals.now) }
 {
     let given = totals.len();
-    if given < 2 || given > MAX_TOTALS {
+    if !(2..=MAX_FRAMES + 1).contains(&given) {
         return Err(TotalsFault::Count { given });
     }
-    let place = fitting(totals);
-    if place < given {
+    if let Some(place) = misfit(totals) {
         return Err(TotalsFault::Entry { place });
     }
     Ok(())
@@ -57,6 +49,7 @@ impl<'a> Film<'a> {
     }
 
     // Holds these totals from now on; where a check refuses them, it stays as it is.
+    #[tactic(auto, using(crate::proofs::Fitting::unrefused))]
     pub fn set_up(&mut self, totals: &'a [u64]) -> Result<(), TotalsFault>
         ensures result { result ≡ unless (totals_fault totals.now) }
         ensures holds { MatchResult result (λ _. self.new.totals.now ≡ totals.now) (λ _. self.new ≡ self.old) }

@@ -1,70 +1,40 @@
-use Rattle.std.proofs.Common.{◌≡◌, ℕ, ◌+◌, ◌<◌, List, length, get_or, drop, Ok, Err, Option, sym, ap, ◌∙◌, subst, arith}
-use Rattle.std.proofs.lemmas.List.{length-set, get_or-set_same}
-use Rattle.std.proofs.lemmas.Result.{err_from_is_err_and, IfOk-from_err}
-use Rattle.totals.specs.Totals.{total}
-use Rattle.totals.proofs.Steps.{totals_more}
-use Rattle.films.specs.declared.fault.FilmFault.{FilmFault}
-use Rattle.films.specs.Steps.{frame_check}
-use Rattle.films.proofs.Making.{in_room, let_in, at_fault, at_plain_end, at_size, at_overfull, made_of}
+use Rattle.std.proofs.Common.{length, sym, refl, ◌∙◌, arith}
+use Rattle.std.proofs.lemmas.Result.{err_from_is_err_and}
+use Rattle.totals.proofs.Steps.{total_more}
+use Rattle.films.proofs.Making.{at_refusal, at_plain_end, at_size, made_of, put_in, all_put_in}
 use Rattle.films.proofs.make.read_frames.Goals as goal
 
-pub returns-in_err-size : goal.returns-in_err-size
-returns-in_err-size g c =
-    let so = in_room (length c.args.totals.now) (c.loop-size.auto.totals ∙ length-set c.args.totals.now 0 0) c.loop-size.invariant.0 in
+pub returns-in_err-size-clause-result : goal.returns-in_err-size-clause-result
+returns-in_err-size-clause-result g c =
     let p = err_from_is_err_and c.from_residual.result c.from_residual.ensures.1 in
-    let at = at_fault so _ (sym c.next_size.ensures.tells ∙ c.in_err-size.was) in
-    record {
-      result = p.1 ∙ ap (λ (e : FilmFault). Err e) p.2 ∙ sym at.0;
-      totals = IfOk-from_err _ _ c.from_residual.ensures.0;
-      left = c.next_size.ensures.moves ∙ at.1;
-      ending = c.next_size.ensures.ends ∙ so.same;
-    }
+    rw (p.1, p.2) (sym (at_refusal c.loop-frames.invariant.so_far c.next_size.ensures.taken (length c.args.totals.now) _ _ _ _ refl refl (omega arith) c.next_size.ensures.tells c.in_err-size.was).0)
 
-pub returns-in_err-add_frame : goal.returns-in_err-add_frame
-returns-in_err-add_frame g c =
-    let room = c.loop-size.auto.totals ∙ length-set c.args.totals.now 0 0 in
-    let so = in_room (length c.args.totals.now) room c.loop-size.invariant.0 in
-    let p = err_from_is_err_and c.from_residual-in_err-add_frame.result c.from_residual-in_err-add_frame.ensures.1 in
-    let size = at_size so c.in-Some.size (sym c.next_size.ensures.tells ∙ c.in_ok-size.was ∙ ap (λ (o : Option ℕ). Ok o) c.in-Some.is) in
-    let at = at_overfull so c.in_err-add_frame.field-0.0 size.0 (ap (frame_check c.loop-size.frames) (sym room) ∙ sym c.add_frame.ensures.checked ∙ c.in_err-add_frame.was) in
-    record {
-      result = p.1 ∙ ap (λ (e : FilmFault). Err e) p.2 ∙ sym at.0;
-      totals = IfOk-from_err _ _ c.from_residual-in_err-add_frame.ensures.0;
-      left = c.next_size.ensures.moves ∙ size.2 ∙ ap (λ (n : ℕ). drop n (g.R.Reader.reading c.args.reader.now).sizes) at.1;
-      ending = c.next_size.ensures.ends ∙ so.same;
-    }
+pub returns-in_err-size-clause-taken : goal.returns-in_err-size-clause-taken
+returns-in_err-size-clause-taken g c = (at_refusal c.loop-frames.invariant.so_far c.next_size.ensures.taken _ _ _ _ _ refl refl (omega arith) c.next_size.ensures.tells c.in_err-size.was).1
 
-pub loop-size-preserved : goal.loop-size-preserved
-loop-size-preserved g c =
-    let so = c.loop-size.invariant.0 in
-    let before = g.R.Reader.reading c.args.reader.now in
-    let memory = c.loop-size.totals in
-    let frames = c.loop-size.frames in
-    let size = at_size so c.in-Some.size (sym c.next_size.ensures.tells ∙ c.in_ok-size.was ∙ ap (λ (o : Option ℕ). Ok o) c.in-Some.is) in
-    let more = size.0 in
-    let fits = let_in frames (length memory) c.in_ok-add_frame.field-0 c.in_ok-add_frame.ensures.checked in
-    let room : frames + 1 < length memory = fits.1 in
-    let written = c.in_ok-add_frame.ensures.after in
-    let next = ap (λ (m : List ℕ). get_or m (frames + 1) 0) written ∙ get_or-set_same memory (frames + 1) (get_or memory frames 0 + c.in-Some.size) 0 room in (
-      record {
-        few = omega (arith, fits.0);
-        within = omega (arith, room, ap length written, length-set memory (frames + 1) (get_or memory frames 0 + c.in-Some.size));
-        counted = omega (arith, more);
-        reached = c.next_size.ensures.moves ∙ size.2;
-        same = c.next_size.ensures.ends ∙ so.same;
-      },
-      omega (arith, next, c.loop-size.invariant.1, size.1, before.small frames),
-      subst (λ (m : List ℕ). (k : ℕ) → k < frames + 1 + 1 → get_or m k 0 ≡ total before.sizes k) (sym written)
-          (totals_more before.sizes memory frames c.in-Some.size more room size.1 c.loop-size.invariant.2),
-    )
-
-pub returns : goal.returns
-returns g c =
-    let so = in_room (length c.args.totals.now) (c.loop-size.auto.totals ∙ length-set c.args.totals.now 0 0) c.loop-size.invariant.0 in
-    let at = at_plain_end so (sym c.next_size.ensures.tells ∙ c.in_ok-size.was ∙ ap (λ (o : Option ℕ). Ok o) c.in_default.is) in
+pub returns-in_default : goal.returns-in_default
+returns-in_default g c =
+    let l = c.loop-frames in
+    let at = at_plain_end l.invariant.so_far c.next_size.ensures.taken (length c.args.totals.now) _ _ _ _ refl refl (omega arith) c.next_size.ensures.tells c.in_ok-size.was c.in_default.is in
     record {
       result = c.film_of.ensures ∙ sym at.1;
-      totals = made_of c.loop-size.frames c.film_of.result _ c.film_of.ensures (so.within, at.0, c.loop-size.invariant.2);
-      left = c.next_size.ensures.moves ∙ at.2;
-      ending = c.next_size.ensures.ends ∙ so.same;
+      totals = made_of l.frames c.film_of.result _ c.film_of.ensures (all_put_in _ l.totals l.frames l.sum at.0 l.invariant.last (omega arith) l.invariant.written);
+      taken = at.2;
+    }
+
+pub overflow_add-sum : goal.overflow_add-sum
+overflow_add-sum g c =
+    let at = at_size c.loop-frames.invariant.so_far c.next_size.ensures.taken _ _ _ _ _ refl c.next_size.ensures.tells c.in_ok-size.was c.in-Some.is in
+    omega (arith, at.0, (g.R.Reader.reading c.args.reader.now).small c.loop-frames.frames)
+
+pub loop-frames-preserved : goal.loop-frames-preserved
+loop-frames-preserved g c =
+    let l = c.loop-frames in
+    let before = g.R.Reader.reading c.args.reader.now in
+    let at = at_size l.invariant.so_far c.next_size.ensures.taken _ _ _ _ _ refl c.next_size.ensures.tells c.in_ok-size.was c.in-Some.is in
+    record {
+      so_far = at.1;
+      last = omega (arith, l.invariant.last, at.0, total_more before.sizes l.frames (omega arith));
+      bound = omega (arith, l.invariant.bound, at.0, before.small l.frames);
+      written = put_in before.sizes l.totals l.frames l.sum l.invariant.last (omega arith) l.invariant.written;
     }

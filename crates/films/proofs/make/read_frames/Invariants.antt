@@ -1,14 +1,15 @@
-use Rattle.std.proofs.Common.{◌≡◌, ℕ, ◌+◌, ◌*◌, ◌<◌, ◌≤◌, length, get_or}
-use Rattle.totals.specs.Totals.{total}
+use Rattle.std.proofs.Common.{◌≡◌, ℕ, ◌*◌, ◌<◌, ◌≤◌, get_or}
+use Rattle.totals.specs.Totals.{total, max_size}
 use Rattle.films.proofs.Making.{SoFar}
 use Rattle.films.proofs.make.read_frames.Given as goal
 
-abbrev pub invariant-loop-size : goal.invariant-loop-size
-invariant-loop-size g l =
+-- the totals of the frames so far stand in the entries, but for the last of them
+abbrev pub invariant-loop-frames : goal.invariant-loop-frames
+invariant-loop-frames g l =
     let before = g.R.Reader.reading l.initial.reader in
-    SoFar before (g.R.Reader.reading l.reader) (length l.totals) l.frames ×
-    (get_or l.totals l.frames 0 ≤ l.frames * 4294967295) ×
-    ((k : ℕ) → k < l.frames + 1 → get_or l.totals k 0 ≡ total before.sizes k)
-
-abbrev pub decreases-loop-size : goal.decreases-loop-size
-decreases-loop-size g l = length (g.R.Reader.reading l.reader).sizes
+    record {
+      so_far : SoFar before (g.R.Reader.reading l.reader) l.frames;
+      last : l.sum ≡ total before.sizes l.frames;
+      bound : l.sum ≤ l.frames * max_size;
+      written : (k : ℕ) → k < l.frames → get_or l.totals k 0 ≡ total before.sizes k;
+    }
