@@ -11,7 +11,7 @@ pub trait Layer: Sized {
     // what an envelope means under the layer, by what it means below
     ghost alters: { Self → Bounds → Bounds };
 
-    // How many slots there are under the layer.
+    // How many slots there are under the layer. It has no body here: what a layer alters, only the layer knows.
     fn slots<E: Envelope>(&self, below: &E) -> usize
         ensures { result ≡ (alters self.now (E.Envelope.bounds below.now)).slots };
 

@@ -41,6 +41,7 @@ impl<'a> Envelope for Pattern<'a> {
         self.due(k.min(self.slots))
     }
 
+    // as a film's; one function for both would be longer than the two lines
     fn upper(&self, k: usize) -> u64 {
         if k == 0 {
             return 0;

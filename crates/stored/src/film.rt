@@ -24,6 +24,7 @@ impl<'a> Envelope for Film<'a> {
         self.totals[k.min(self.slots())]
     }
 
+    // as a pattern's; one function for both would be longer than the two lines
     fn upper(&self, k: usize) -> u64 {
         if k == 0 {
             return 0;

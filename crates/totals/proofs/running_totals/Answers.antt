@@ -1,3 +1,4 @@
+-- What the check does not find by itself: each of these was moved aside, and it was wanted again.
 use Rattle.std.proofs.Common.{◌+◌, ◌<◌, map, length, sym, ap, ◌∙◌, arith}
 use Rattle.std.proofs.lemmas.List.{length-map, get_or-map, length-set, get_or-set_same}
 use Rattle.totals.proofs.Steps.{totals_more, totals_all}

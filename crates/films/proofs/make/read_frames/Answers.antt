@@ -1,3 +1,4 @@
+-- What the check does not find by itself: each of these was moved aside, and it was wanted again.
 use Rattle.std.proofs.Common.{length, sym, refl, ◌∙◌, arith}
 use Rattle.std.proofs.lemmas.Result.{err_from_is_err_and}
 use Rattle.totals.proofs.Steps.{total_more}
