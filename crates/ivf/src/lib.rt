@@ -39,7 +39,7 @@ impl Weight for Frame<'_> {
 }
 
 impl<'a> IvfReader<'a> {
-    // Apart from `open`: in one function the search was tried and doesn't find the law on cut files.
+    // Apart from `open`: tried as one function, in which the search doesn't find the law on cut files.
     fn begin(input: &'a [u8]) -> Result<IvfReader<'a>, OpenFault>
         ensures { IvfOpened input.now result }
     {

@@ -11,7 +11,7 @@ use ivf::IvfReader;
 // How many totals the program has room for: a fixed table, since the listing allocates nothing.
 const TOTALS: usize = 1_025;
 
-// Apart from `film_row`: in one function the search was tried and doesn't find the law on cut files.
+// Apart from `film_row`: tried as one function, in which the search doesn't find the law on cut files.
 #[tactic(auto, using(crate::proofs::Opened::opened_within, crate::proofs::Opened::opened_row))]
 fn row_of(input: &[u8]) -> Result<Row, ListingFault>
     ensures { result ≡ film_row input.now }
