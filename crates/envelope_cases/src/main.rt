@@ -77,7 +77,11 @@ fn numbers_of(heap: Global, text: &str) -> anyhow::Result<Vec<u64>> {
     let mut numbers = Vec::new(heap);
     for word in text.split(' ') {
         let (times, number) = word.split_once('x').unwrap_or(("1", word));
-        numbers.extend(repeat_n(number.parse::<u64>()?, times.parse::<usize>()?))?;
+        let repeated = repeat_n(number.parse::<u64>()?, times.parse::<usize>()?);
+        // one by one, so that the memory never grows past twice what the list takes
+        for number in repeated {
+            numbers.push(number)?;
+        }
     }
     Ok(numbers)
 }

@@ -9,7 +9,7 @@ ghost use Rattle.ivf.specs.Recorded.{ReadsCut};
 
 use readers::fault::{OpenFault, RecordFault};
 use readers::field::bytes_at;
-use readers::reader::Reader;
+use readers::reader::{Item, Reader};
 use totals::{MAX_SIZE, Weight};
 
 // The bytes of a frame before its data: the size and the stamp.
@@ -35,6 +35,12 @@ impl Weight for Frame<'_> {
 
     fn weight(&self) -> u64 {
         u64::from(self.size)
+    }
+}
+
+impl Item for Frame<'_> {
+    fn size(&self) -> u32 {
+        self.size
     }
 }
 
@@ -84,9 +90,10 @@ impl<'a> IvfReader<'a> {
             return Err(RecordFault::TooLarge { place });
         }
         let end = start + size as usize;
-        let Some(data) = self.input.get(start..end) else {
+        if self.input.len() < end {
             return Err(RecordFault::DataCut { place });
-        };
+        }
+        let data = &self.input[start..end];
         let stamp = u64::from_le_bytes(bytes_at(self.input, place + 4));
         Ok(Frame {
             data,

@@ -5,9 +5,9 @@ use Rattle.refusals.specs.declared.Refusal.{Refusal}
 use Rattle.refusals.specs.Told.{refused}
 use Rattle.layers.specs.declared.fault.NumberFault.{NumberFault}
 
--- what is given is kept where it is at most `most`, and refused where it is above
+-- what is given is kept where it is at most `most`, and refused where it is above; the refusal holds both numbers
 abbrev pub KeptUpTo : (most given : ℕ) → Result ℕ NumberFault → Type 0
-KeptUpTo most given r = MatchResult r (λ n. (n ≡ given) × (given ≤ most)) (λ e. (e.given ≡ given) × (most < given))
+KeptUpTo most given r = MatchResult r (λ n. (n ≡ given) × (given ≤ most)) (λ e. (e.given ≡ given) × (e.most ≡ most) × (most < given))
 
 -- the place that is told is the number
 abbrev pub number_refusal : NumberFault → Refusal

@@ -12,6 +12,8 @@ use std::fmt::Display;
 #[derive(Clone, Copy, Debug, PartialEq, Eq)]
 pub struct NumberFault {
     pub given: u64,
+    // the most that it may be, which tells slots, 65,535, from bytes, 1,099,511,627,775
+    pub most: u64,
 }
 
 impl Fault for NumberFault {

@@ -34,8 +34,8 @@ pub trait Layer: Sized {
 // An envelope under a layer.
 #[derive(Clone, Copy, Drop)]
 pub struct Layered<L, E> {
-    pub layer: L,
     pub below: E,
+    pub layer: L,
 }
 
 impl<L: Layer, E: Envelope> Envelope for Layered<L, E> {

@@ -46,7 +46,7 @@ impl<const MOST: u64> TryFrom<u64> for AtMost<MOST> {
 
     fn try_from(given: u64) -> Result<AtMost<MOST>, NumberFault> {
         if given > MOST {
-            return Err(NumberFault { given });
+            return Err(NumberFault { given, most: MOST });
         }
         Ok(AtMost { number: given })
     }

@@ -1,7 +1,6 @@
 -- What a live camera means: each slot's bytes are there in that slot, and are sent in it. Assumes nothing.
 use Rattle.std.specs.Prelude.{◌≡◌, ℕ, ◌+◌, ◌*◌, ◌≤◌, min}
 use Rattle.std.proofs.Common.{arith, mul-le-mul, mul-zero}
-use Rattle.std.proofs.Math.Nat.{le_trans}
 use Rattle.totals.specs.Totals.{max_size, max_frames}
 use Rattle.envelopes.specs.Bounds.{Bounds, Limit, max_bytes}
 use Rattle.envelopes.specs.Cut.{up_to}
@@ -16,8 +15,11 @@ module _ (size slots : ℕ) (fits : LiveFits size slots) where
   pub live_rises : (k : ℕ) → size * k ≤ size * (k + 1)
   live_rises k = omega arith
 
+  few : (k : ℕ) → k ≤ slots → k ≤ 65535
+  few k h = omega (arith, fits.few)
+
   pub live_bound : (k : ℕ) → k ≤ slots → size * k ≤ max_bytes
-  live_bound k h = omega (arith, mul-le-mul fits.small (le_trans h fits.few))
+  live_bound k h = omega (arith, mul-le-mul fits.small (few k h))
 
   pub live_starts : size * min 0 slots ≡ 0
   live_starts = grind (arith, mul-zero)

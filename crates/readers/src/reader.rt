@@ -5,9 +5,14 @@ ghost use Rattle.readers.specs.Reading.{Reading, Takes};
 use crate::fault::RecordFault;
 use totals::Weight;
 
+// What a reader hands out for a record: it weighs its size, in bytes.
+pub trait Item: Weight {
+    fn size(&self) -> u32
+        ensures { result ≡ Self.weighs self.now };
+}
+
 pub trait Reader {
-    // What is handed out for each record: it weighs its size.
-    type Record: Weight + Drop;
+    type Record: Item + Drop;
 
     ghost reading: { Self → Reading };
 

@@ -2,6 +2,8 @@
 
 #![tactic(auto)]
 
+ghost use Rattle.std.specs.Prelude.{◌≤◌, length};
+
 use listing::fault::MAX_INPUT;
 use listing::list::listing;
 use std::io;
@@ -12,7 +14,9 @@ const CAPACITY: usize = MAX_INPUT + 1;
 
 // What comes from standard input, in the front of the buffer. A read that fails counts as the end. The memory is
 // fixed, so the bytes are counted here: no want of memory can pass for a read that failed.
-fn read_input<'a>(rt: &HostRuntime, buffer: &'a mut [u8]) -> &'a [u8] {
+fn read_input<'a>(rt: &HostRuntime, buffer: &'a mut [u8]) -> &'a [u8]
+    ensures { length result.now ≤ length buffer.old }
+{
     let mut filled = 0;
     let mut input = rt.stdin();
     while filled < buffer.len() {

@@ -1,5 +1,5 @@
 -- What a reader of a sample-size box hands out, and what it has still to give. Assumes nothing.
-use Rattle.std.specs.Prelude.{◌≡◌, ℕ, zero, suc, ◌+◌, ◌-◌, ◌<◌, ◌≤◌, List, Some, None, Ok, Err, Option, Result, MatchResult}
+use Rattle.std.specs.Prelude.{◌≡◌, ℕ, zero, suc, ◌+◌, ◌-◌, ◌<◌, ◌≤◌, List, length, Some, None, Ok, Err, Option, Result, MatchResult, nat_lt, if◌then◌else◌}
 use Rattle.std.proofs.Common.{ltb-false}
 use Rattle.refusals.proofs.Checks.{passed}
 use Rattle.totals.specs.Totals.{max_size}
@@ -7,7 +7,8 @@ use Rattle.readers.specs.declared.fault.OpenFault.{OpenFault}
 use Rattle.readers.specs.declared.fault.RecordFault.{RecordFault}
 use Rattle.readers.specs.Field.{big}
 use Rattle.readers.specs.Reading.{Reading, Ending, Small, nothing, record_then}
-use Rattle.readers.proofs.Small.{small_none, small_then}
+use Rattle.readers.proofs.Small.{small_none, small_then, small_cond}
+use Rattle.stsz.specs.declared.sizes.Sizes.{Sizes}
 use Rattle.stsz.specs.declared.record.IndexRecord.{IndexRecord}
 use Rattle.stsz.specs.declared.table.SizeTable.{SizeTable}
 use Rattle.stsz.specs.declared.reader.StszReader.{StszReader}
@@ -32,27 +33,31 @@ fault_at table i = sample_fault table.input.now (size_place table.sizes i)
 abbrev pub StszOpened : List ℕ → Result StszReader OpenFault → Type 0
 StszOpened input r = MatchResult r (λ reader. TableOf input reader.table × (reader.number ≡ 0)) (λ e. stsz_open_fault input ≡ Some e)
 
--- the sizes of the next samples, from number i on, and their ending
-abbrev pub samples_from : (left : ℕ) → SizeTable → ℕ → List ℕ × Ending
-samples_from zero table i = nothing
-samples_from (suc left) table i = record_then (fault_at table i) (size_at table i) (samples_from left table (i + 1))
+-- the sizes of the next samples of an input, from number i on, and their ending. None comes whose size would stand past
+-- the input's end; of a box that passes its checks none does.
+abbrev pub samples_from : (left : ℕ) → Sizes → List ℕ → ℕ → List ℕ × Ending
+samples_from zero sizes input i = nothing
+samples_from (suc left) sizes input i =
+    if nat_lt (length input) (size_place sizes i + 4) then nothing
+    else record_then (sample_fault input (size_place sizes i)) (big 4 (size_place sizes i) input) (samples_from left sizes input (i + 1))
 
-pub samples_small : (left : ℕ) (table : SizeTable) (i : ℕ) → Small (samples_from left table i).0
-samples_small zero table i = small_none
-samples_small (suc left) table i =
-    small_then (fault_at table i) (size_at table i) _ (λ e. ltb-false max_size (size_at table i) (passed (sample_checks table.input.now (size_place table.sizes i)) e).0)
-    (samples_small left table (i + 1))
+pub samples_small : (left : ℕ) (sizes : Sizes) (input : List ℕ) (i : ℕ) → Small (samples_from left sizes input i).0
+samples_small zero sizes input i = small_none
+samples_small (suc left) sizes input i =
+    small_cond (nat_lt (length input) (size_place sizes i + 4)) nothing _ small_none
+    (small_then (sample_fault input (size_place sizes i)) (big 4 (size_place sizes i) input) _ (λ e. ltb-false max_size (big 4 (size_place sizes i) input) (passed (sample_checks input (size_place sizes i)) e).0)
+    (samples_small left sizes input (i + 1)))
 
-abbrev pub stsz_reading : SizeTable → ℕ → Reading
-stsz_reading table i = record {
-  sizes = (samples_from (table.count - i) table i).0;
-  ending = (samples_from (table.count - i) table i).1;
-  small = samples_small (table.count - i) table i;
+abbrev pub stsz_reading : Sizes → List ℕ → (count i : ℕ) → Reading
+stsz_reading sizes input count i = record {
+  sizes = (samples_from (count - i) sizes input i).0;
+  ending = (samples_from (count - i) sizes input i).1;
+  small = samples_small (count - i) sizes input i;
 }
 
 -- what a reader of a sample-size box has still to give, wherever it stands
 abbrev pub stsz_meaning : StszReader → Reading
-stsz_meaning reader = stsz_reading reader.table reader.number
+stsz_meaning reader = stsz_reading reader.table.sizes reader.table.input.now reader.table.count reader.number
 
 -- the reader's next sample
 pub record RecordAt (reader : StszReader) (r : IndexRecord) : Type 0 where

@@ -33,7 +33,7 @@ impl<'a> Reader for StszReader<'a> {
     ghost reading = { stsz_meaning };
 
     // The sample at the reader's number, or none after the last; the reader moves past a sample.
-    #[tactic(auto, using(crate::proofs::Samples::samples_more))]
+    #[tactic(auto, using(crate::proofs::Samples::samples_end, crate::proofs::Samples::samples_more, crate::proofs::Samples::samples_fault))]
     fn next(&mut self) -> Result<Option<IndexRecord>, RecordFault>
         ensures takes { Takes (λ sample. sample.size) (stsz_meaning self.old) result (stsz_meaning self.new) }
         ensures stays { (stsz_meaning self.old).sizes ≡ [] → self.new ≡ self.old }

@@ -1,6 +1,7 @@
 // A sample as its box tells of it.
 ghost use Rattle.std.specs.Prelude.{◌≡◌};
 
+use readers::reader::Item;
 use totals::Weight;
 
 // A sample's size and its number, from 0.
@@ -15,5 +16,11 @@ impl Weight for IndexRecord {
 
     fn weight(&self) -> u64 {
         u64::from(self.size)
+    }
+}
+
+impl Item for IndexRecord {
+    fn size(&self) -> u32 {
+        self.size
     }
 }
