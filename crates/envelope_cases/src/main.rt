@@ -16,7 +16,6 @@ use patterns::pattern::Pattern;
 use std::alloc::Global;
 use std::fmt::Display;
 use std::io::{BufRead, BufReader};
-use std::iter::repeat_n;
 use stored::film::Film;
 
 // Tells what the envelope answers at the first slots, and round the last one.
@@ -77,9 +76,9 @@ fn numbers_of(heap: Global, text: &str) -> anyhow::Result<Vec<u64>> {
     let mut numbers = Vec::new(heap);
     for word in text.split(' ') {
         let (times, number) = word.split_once('x').unwrap_or(("1", word));
-        let repeated = repeat_n(number.parse::<u64>()?, times.parse::<usize>()?);
-        // one by one, so that the memory never grows past twice what the list takes
-        for number in repeated {
+        let number = number.parse::<u64>()?;
+        // one by one: extend with repeat_n takes the exact memory, and the next number then doubles it
+        for _ in 0..times.parse::<usize>()? {
             numbers.push(number)?;
         }
     }
