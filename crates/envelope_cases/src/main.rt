@@ -16,6 +16,7 @@ use patterns::pattern::Pattern;
 use std::alloc::Global;
 use std::fmt::Display;
 use std::io::{BufRead, BufReader};
+use std::iter::repeat_n;
 use stored::film::Film;
 
 // Tells what the envelope answers at the first slots, and round the last one.
@@ -29,6 +30,9 @@ fn show<E: Envelope>(text: &mut String, envelope: &E) -> anyhow::Result<()> {
     }
     Ok(())
 }
+
+// How many layers are put on at most.
+const MOST_LAYERS: usize = 2;
 
 // A layer of any kind.
 type AnyLayer = Either<Either<Delay, Buffer>, Either<Jitter, Prefix>>;
@@ -64,11 +68,23 @@ fn layer_of(layer: &str) -> anyhow::Result<AnyLayer> {
     }
 }
 
+// The layers of a case. All of them are read, and no more are kept than it takes to see that there are too many.
 fn layers_of(heap: Global, text: &str) -> anyhow::Result<Vec<AnyLayer>> {
-    text.split(';')
-        .filter(|layer| !layer.is_empty())
-        .map(layer_of)
-        .try_collect(heap)
+    let mut layers = Vec::new(heap);
+    for layer in text.split(';').filter(|layer| !layer.is_empty()) {
+        let layer = layer_of(layer)?;
+        if layers.len() <= MOST_LAYERS {
+            layers.push(layer)?;
+        }
+    }
+    Ok(layers)
+}
+
+// So many more that a list of this length has as much room as pushing them one by one would make: a power of two.
+fn more_room(length: usize, times: usize) -> usize {
+    let all = length.saturating_add(times);
+    let room = all.checked_next_power_of_two().unwrap_or(all);
+    room.saturating_sub(length)
 }
 
 // The numbers of a list; `3x7` stands for three times 7.
@@ -77,9 +93,13 @@ fn numbers_of(heap: Global, text: &str) -> anyhow::Result<Vec<u64>> {
     for word in text.split(' ') {
         let (times, number) = word.split_once('x').unwrap_or(("1", word));
         let number = number.parse::<u64>()?;
-        // one by one: extend with repeat_n takes the exact memory, and the next number then doubles it
-        for _ in 0..times.parse::<usize>()? {
+        let times = times.parse::<usize>()?;
+        if times == 1 {
             numbers.push(number)?;
+        } else {
+            // extend alone takes the exact memory, and the next number then doubles it
+            numbers.reserve(more_room(numbers.len(), times))?;
+            numbers.extend(repeat_n(number, times))?;
         }
     }
     Ok(numbers)
