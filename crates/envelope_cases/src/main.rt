@@ -80,11 +80,17 @@ fn layers_of(heap: Global, text: &str) -> anyhow::Result<Vec<AnyLayer>> {
     Ok(layers)
 }
 
-// So many more that a list of this length has as much room as pushing them one by one would make: a power of two.
-fn more_room(length: usize, times: usize) -> usize {
-    let all = length.saturating_add(times);
-    let room = all.checked_next_power_of_two().unwrap_or(all);
-    room.saturating_sub(length)
+// Makes room for so many more as pushing them one by one would make it: extend alone takes the exact memory, and the next
+// number then doubles it.
+fn make_room(numbers: &mut Vec<u64>, times: usize) -> anyhow::Result<()> {
+    for _ in 0..usize::BITS {
+        let free = numbers.capacity().saturating_sub(numbers.len());
+        if free >= times {
+            break;
+        }
+        numbers.reserve(free.saturating_add(1))?;
+    }
+    Ok(())
 }
 
 // The numbers of a list; `3x7` stands for three times 7.
@@ -97,8 +103,7 @@ fn numbers_of(heap: Global, text: &str) -> anyhow::Result<Vec<u64>> {
         if times == 1 {
             numbers.push(number)?;
         } else {
-            // extend alone takes the exact memory, and the next number then doubles it
-            numbers.reserve(more_room(numbers.len(), times))?;
+            make_room(&mut numbers, times)?;
             numbers.extend(repeat_n(number, times))?;
         }
     }
